@@ -1,0 +1,1 @@
+// Definitions and laws that several crates share and the toolchain's library lacks. No function.

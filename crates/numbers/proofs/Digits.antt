@@ -1,0 +1,105 @@
+-- Laws of the digits at the start of some bytes. Assumes nothing.
+use Prim.Native.Nat.{ℕ, zero, suc, _+_, _-_, _*_, _^_, _≤_, _<_}
+use native.Mathlib.Nat.{pow-suc}
+use native.Mathlib.Omega.{arith}
+use mathlib.Core.Path.{_≡_, refl, sym, ap, _∙_}
+use mathlib.Core.List.{List, [], _∷_, _++_, append-nil}
+use mathlib.Core.Bool.{Bool, true, false, _&&_}
+use borrow.Author.Tests.{lt-ltb, ltb-true, ltb-false, leb-true}
+use lib.Arith.{digits-lt}
+use lib.Dec.{ltb, leb}
+use lib.ListN.{length}
+use Rattle.facts.proofs.Branch.{split, either, differ}
+use Rattle.numbers.specs.Whole.{within, digitOf, Digits, digits, digitsIn}
+use Rattle.numbers.specs.Value.{Figures, worth}
+
+pub and-left : (a b : Bool) → (a && b) ≡ true → a ≡ true
+and-left true b p = refl
+and-left false b p = p
+
+pub and-right : (a b : Bool) → (a && b) ≡ true → b ≡ true
+and-right true b p = p
+and-right false b p = differ false p refl
+
+pub within-is : (low high b : ℕ) → within low high b ≡ true → (low ≤ b) × (b ≤ high)
+within-is low high b p = (leb-true _ _ (and-left (leb low b) _ p), leb-true _ _ (and-right (leb low b) _ p))
+
+-- a decimal digit is one of the bytes 48 to 57
+pub decimal-byte : (b : ℕ) → digitOf b < 10 → (48 ≤ b) × (b ≤ 57)
+unfolding digitOf
+decimal-byte b =
+    either (λ d. d < 10 → (48 ≤ b) × (b ≤ 57)) (within 48 57 b) (λ p _. within-is 48 57 b p)
+    (λ _. either (λ d. d < 10 → (48 ≤ b) × (b ≤ 57)) (within 65 70 b) (λ p h. absurd (omega (arith, within-is 65 70 b p)))
+    (λ _. either (λ d. d < 10 → (48 ≤ b) × (b ≤ 57)) (within 97 102 b) (λ p h. absurd (omega (arith, within-is 97 102 b p))) (λ _ h. absurd (omega arith))))
+
+-- the first byte, where there is one
+abbrev pub Begins : (ℕ → Type 0) → List ℕ → Type 0
+Begins P [] = Unit
+Begins P (b ∷ r) = P b
+
+module _ (base : ℕ) where
+  -- digits and the bytes behind them are all the bytes
+  pub digitsIn-length : (w : List ℕ) (v n : ℕ) → digitsIn base v n w .count + length (digitsIn base v n w .rest) ≡ n + length w
+  unfolding digitsIn
+  digitsIn-length [] v n = refl
+  digitsIn-length (b ∷ w) v n =
+      either (λ (d : Digits). d .count + length (d .rest) ≡ n + length (b ∷ w)) (ltb (digitOf b) base)
+      (λ _. digitsIn-length w _ (suc n) ∙ omega arith) (λ _. refl)
+
+  -- n digits write a number below base ^ n
+  pub digitsIn-below : (w : List ℕ) (v n : ℕ) → v < base ^ n → digitsIn base v n w .value < base ^ digitsIn base v n w .count
+  unfolding digitsIn
+  digitsIn-below [] v n h = h
+  digitsIn-below (b ∷ w) v n h =
+      either (λ (d : Digits). d .value < base ^ d .count) (ltb (digitOf b) base)
+      (λ p. digitsIn-below w _ (suc n) (rw pow-suc (digits-lt h (ltb-true _ _ p)))) (λ _. h)
+
+  abbrev pub NoDigit : ℕ → Type 0
+  NoDigit b = ltb (digitOf b) base ≡ false
+
+  -- digits and then something else: all of the digits are read
+  pub digitsIn-exact : (a r : List ℕ) (v n : ℕ) → Figures base a → Begins NoDigit r → digitsIn base v n (a ++ r) ≡ digits (worth base v a) (n + length a) r
+  unfolding digitsIn
+  digitsIn-exact [] [] v n d s = let z : n ≡ n + 0 = omega arith in ap (λ k. digits v k []) z
+  digitsIn-exact [] (b ∷ r) v n d s = let z : n ≡ n + 0 = omega arith in rw (s, digitsIn) (ap (λ k. digits v k (b ∷ r)) z)
+  digitsIn-exact (b ∷ a) r v n d s =
+      let z : suc n + length a ≡ n + suc (length a) = omega arith in
+      rw (lt-ltb _ base (d .0), digitsIn) (digitsIn-exact a r _ (suc n) (d .1) s ∙ ap (λ k. digits (worth base v (b ∷ a)) k r) z)
+
+  -- and what is read is such a part of the bytes
+  pub record Run (w : List ℕ) (v n : ℕ) (d : Digits) : Type 0 where
+    pub run : List ℕ
+    pub parted : w ≡ run ++ d .rest
+    pub figures : Figures base run
+    pub value : d .value ≡ worth base v run
+    pub count : d .count ≡ n + length run
+
+  no-run : (w : List ℕ) (v n : ℕ) → Run w v n (digits v n w)
+  no-run w v n = record { run = []; parted = refl; figures = tt; value = refl; count = omega arith }
+
+  longer-run : (b : ℕ) (w : List ℕ) (v n : ℕ) (d : Digits) → digitOf b < base → Run w (v * base + digitOf b) (suc n) d → Run (b ∷ w) v n d
+  longer-run b w v n d h r =
+      record { run = b ∷ r .run; parted = ap (λ l. b ∷ l) (r .parted); figures = (h, r .figures); value = r .value; count = omega (arith, r .count) }
+
+  pub digitsIn-part : (w : List ℕ) (v n : ℕ) → Run w v n (digitsIn base v n w)
+  unfolding digitsIn
+  digitsIn-part [] v n = no-run [] v n
+  digitsIn-part (b ∷ w) v n =
+      either (Run (b ∷ w) v n) (ltb (digitOf b) base)
+      (λ p. longer-run b w v n _ (ltb-true _ _ p) (digitsIn-part w _ (suc n))) (λ _. no-run (b ∷ w) v n)
+
+  pub worth-append : (a b : List ℕ) (v : ℕ) → worth base v (a ++ b) ≡ worth base (worth base v a) b
+  worth-append [] b v = refl
+  worth-append (c ∷ a) b v = worth-append a b _
+
+  pub figures-append : (a b : List ℕ) → Figures base a → Figures base b → Figures base (a ++ b)
+  figures-append [] b p q = q
+  figures-append (c ∷ a) b p q = (p .0, figures-append a b (p .1) q)
+
+  pub figures-left : (a b : List ℕ) → Figures base (a ++ b) → Figures base a
+  figures-left [] b p = tt
+  figures-left (c ∷ a) b p = (p .0, figures-left a b (p .1))
+
+  pub figures-right : (a b : List ℕ) → Figures base (a ++ b) → Figures base b
+  figures-right [] b p = p
+  figures-right (c ∷ a) b p = figures-right a b (p .1)

@@ -1,0 +1,16 @@
+use borrow.Author.Tests.{eq-eqb, ne-eqb}
+use borrow.Author.Needs.{needs}
+use native.Mathlib.Omega.{arith}
+use Rattle.numbers.proofs.power.is_mark.Statement.{statement}
+use Rattle.numbers.proofs.power.is_mark.Tie as tie
+use Rattle.numbers.proofs.power.is_mark.Reads as reads
+use Rattle.numbers.proofs.power.is_mark.Lts as lts
+
+returns : tie.Need-returns
+returns c = rw (eq-eqb _ _ (c .if1 .taken))
+
+returns-2 : tie.Need-returns-2
+returns-2 c = rw (ne-eqb _ _ (c .if1 .left))
+
+pub is-mark-spec : {M : Type 1} → statement M
+is-mark-spec = tie.close (tie.spec returns returns-2)

@@ -1,0 +1,57 @@
+// What may stand behind a coordinate's digits: the power of ten.
+ghost use mathlib.Core.Path.{_≡_};
+ghost use Prim.Native.Nat.{_≤_};
+ghost use lib.ListN.{length, drop};
+ghost use Rattle.numbers.specs.Coordinate.{isMark, powerBy, markedOf, powerOf};
+ghost use Rattle.numbers.specs.Parts.{Below};
+use super::scan::sign_at;
+use super::signed::with_sign32;
+use super::whole::Whole;
+use super::whole::whole_of;
+
+pub(crate) enum Power {
+    Is(i32),
+    Not,
+}
+
+fn is_mark(b: u8) -> bool
+    ensures { λ r. ⌜ r ≡ isMark b ⌝ }
+{
+    b == 101 || b == 69
+}
+
+fn power_by(negative: bool, k: Whole) -> Power
+    requires { ⌜ Below 1000 k ⌝ }
+    ensures { λ r. ⌜ r ≡ powerBy negative k ⌝ }
+{
+    match k {
+        Whole::Is(v) => Power::Is(with_sign32(negative, v)),
+        Whole::Not => Power::Not,
+    }
+}
+
+// Behind the `e`: an optional sign and 1 to 3 digits.
+fn marked_at(w: &[u8], at: usize) -> Power
+    requires { ⌜ at ≤ length (now w) ⌝ }
+    ensures { λ r. ⌜ r ≡ markedOf (drop at (now (w .entry))) ⌝ }
+{
+    let s = sign_at(w, at);
+    let n = s.next;
+    let k = whole_of(&w[n..], 10, 3);
+    power_by(s.negative, k)
+}
+
+// All that is left of the word from `at` on: nothing, or an `e` and its power.
+pub(crate) fn power_at(w: &[u8], at: usize) -> Power
+    requires { ⌜ at ≤ length (now w) ⌝ }
+    ensures { λ r. ⌜ r ≡ powerOf (drop at (now (w .entry))) ⌝ }
+{
+    if w.len() <= at {
+        return Power::Is(0);
+    }
+    if is_mark(w[at]) {
+        let behind = at + 1;
+        return marked_at(w, behind);
+    }
+    Power::Not
+}

@@ -1,0 +1,8 @@
+mod Laws
+pub mod Bounds
+pub mod Listed
+mod Runs
+mod TextOf
+pub mod Text
+pub mod Only
+pub mod Cases
