@@ -4,7 +4,7 @@ use native.Mathlib.Nat.{pow-zero, pow-suc, pow-le-pow-right}
 use native.Mathlib.Numerals.{add-one}
 use native.Mathlib.Omega.{arith}
 use mathlib.Core.Path.{_≡_, refl, sym, ap, _∙_}
-use mathlib.Core.List.{List, [], _∷_}
+use mathlib.Core.List.{List, _∷_}
 use mathlib.Core.Bool.{_&&_}
 use lib.Arith.{digits-lt}
 use lib.Dec.{lit<}
@@ -16,7 +16,7 @@ use Rattle.numbers.specs.Whole.{digitOf, Digits, digits, digitsIn, isEmp
 use Rattle.numbers.specs.Parts.{Below}
 use Rattle.numbers.proofs.Digits.{and-right, within-is, digitsIn-below}
 use Rattle.numbers.proofs.Places.{digitsIn-stop, digitsIn-past}
-use Rattle.numbers.proofs.Written.{wholeBy-is, wholeOf-exactly}
+use Rattle.numbers.proofs.Pieces.{wholeBy-is, wholeOf-exactly}
 
 not-whole : (r : Whole) → ((v : ℕ) → r ≡ Whole.Is v → ⊥) → Whole.Not ≡ r
 not-whole (Whole.Is v) h = absurd (h v refl)
@@ -40,7 +40,9 @@ module _ (base most : ℕ) (w : List ℕ) where
     pub whole-end : length w ≤ i → 1 ≤ i → i ≤ most → Whole.Is v ≡ wholeOf base most w
     unfolding wholeOf
     whole-end h l m =
-        sym (wholeBy-is most v i l m) ∙ ap (λ r. wholeBy most (digits v i r)) (sym (drop-of-length-le w h)) ∙ ap (wholeBy most) (digitsIn-past w i base v i h ∙ s)
+        sym (wholeBy-is most v i l m)
+        ∙ ap (λ r. wholeBy most (digits v i r)) (sym (drop-of-length-le w h))
+        ∙ ap (wholeBy most) (digitsIn-past w i base v i h ∙ s)
 
 -- nothing wraps
 module _ (base most v d i : ℕ) (p : 0 < base) (m : base ^ most ≤ 2 ^ 32) (b : v < base ^ i) (t : d < base) where
@@ -55,7 +57,8 @@ pub whole-below : (base most : ℕ) (w : List ℕ) → 0 < base → Below (base 
 unfolding wholeOf
 whole-below base most w g =
     either (Below (base ^ most)) (isEmpty (d .rest) && within 1 most (d .count))
-    (λ p. omega (arith, digitsIn-below base w 0 0 (rw pow-zero (lit< tt)), pow-le-pow-right g {i = d .count} {j = most} (within-is 1 most (d .count) (and-right (isEmpty (d .rest)) (within 1 most (d .count)) p) .1)))
+    (λ p. let m = within-is 1 most (d .count) (and-right (isEmpty (d .rest)) (within 1 most (d .count)) p) .1 in
+    omega (arith, digitsIn-below base w 0 0 (rw pow-zero (lit< tt)), pow-le-pow-right g {i = d .count} {j = most} m))
     (λ _. tt)
   where
     d : Digits

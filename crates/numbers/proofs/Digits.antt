@@ -1,15 +1,15 @@
 -- Laws of the digits at the start of some bytes. Assumes nothing.
-use Prim.Native.Nat.{ℕ, zero, suc, _+_, _-_, _*_, _^_, _≤_, _<_}
+use Prim.Native.Nat.{ℕ, suc, _+_, _*_, _^_, _≤_, _<_}
 use native.Mathlib.Nat.{pow-suc}
 use native.Mathlib.Omega.{arith}
-use mathlib.Core.Path.{_≡_, refl, sym, ap, _∙_}
-use mathlib.Core.List.{List, [], _∷_, _++_, append-nil}
+use mathlib.Core.Path.{_≡_, refl, ap, _∙_}
+use mathlib.Core.List.{List, [], _∷_, _++_}
 use mathlib.Core.Bool.{Bool, true, false, _&&_}
-use borrow.Author.Tests.{lt-ltb, ltb-true, ltb-false, leb-true}
+use borrow.Author.Tests.{lt-ltb, ltb-true, leb-true}
 use lib.Arith.{digits-lt}
 use lib.Dec.{ltb, leb}
 use lib.ListN.{length}
-use Rattle.facts.proofs.Branch.{split, either, differ}
+use Rattle.facts.proofs.Branch.{either, differ}
 use Rattle.numbers.specs.Whole.{within, digitOf, Digits, digits, digitsIn}
 use Rattle.numbers.specs.Value.{Figures, worth}
 
@@ -28,9 +28,12 @@ within-is low high b p = (leb-true _ _ (and-left (leb low b) _ p), leb-true _ _ 
 pub decimal-byte : (b : ℕ) → digitOf b < 10 → (48 ≤ b) × (b ≤ 57)
 unfolding digitOf
 decimal-byte b =
-    either (λ d. d < 10 → (48 ≤ b) × (b ≤ 57)) (within 48 57 b) (λ p _. within-is 48 57 b p)
-    (λ _. either (λ d. d < 10 → (48 ≤ b) × (b ≤ 57)) (within 65 70 b) (λ p h. absurd (omega (arith, within-is 65 70 b p)))
-    (λ _. either (λ d. d < 10 → (48 ≤ b) × (b ≤ 57)) (within 97 102 b) (λ p h. absurd (omega (arith, within-is 97 102 b p))) (λ _ h. absurd (omega arith))))
+    either Goal (within 48 57 b) (λ p _. within-is 48 57 b p)
+    (λ _. either Goal (within 65 70 b) (λ p h. absurd (omega (arith, within-is 65 70 b p)))
+    (λ _. either Goal (within 97 102 b) (λ p h. absurd (omega (arith, within-is 97 102 b p))) (λ _ h. absurd (omega arith))))
+  where
+    Goal : ℕ → Type 0
+    Goal d = d < 10 → (48 ≤ b) × (b ≤ 57)
 
 -- the first byte, where there is one
 abbrev pub Begins : (ℕ → Type 0) → List ℕ → Type 0
@@ -38,14 +41,6 @@ Begins P [] = Unit
 Begins P (b ∷ r) = P b
 
 module _ (base : ℕ) where
-  -- digits and the bytes behind them are all the bytes
-  pub digitsIn-length : (w : List ℕ) (v n : ℕ) → digitsIn base v n w .count + length (digitsIn base v n w .rest) ≡ n + length w
-  unfolding digitsIn
-  digitsIn-length [] v n = refl
-  digitsIn-length (b ∷ w) v n =
-      either (λ (d : Digits). d .count + length (d .rest) ≡ n + length (b ∷ w)) (ltb (digitOf b) base)
-      (λ _. digitsIn-length w _ (suc n) ∙ omega arith) (λ _. refl)
-
   -- n digits write a number below base ^ n
   pub digitsIn-below : (w : List ℕ) (v n : ℕ) → v < base ^ n → digitsIn base v n w .value < base ^ digitsIn base v n w .count
   unfolding digitsIn
@@ -58,7 +53,8 @@ module _ (base : ℕ) where
   NoDigit b = ltb (digitOf b) base ≡ false
 
   -- digits and then something else: all of the digits are read
-  pub digitsIn-exact : (a r : List ℕ) (v n : ℕ) → Figures base a → Begins NoDigit r → digitsIn base v n (a ++ r) ≡ digits (worth base v a) (n + length a) r
+  pub digitsIn-exact : (a r : List ℕ) (v n : ℕ) → Figures base a → Begins NoDigit r
+      → digitsIn base v n (a ++ r) ≡ digits (worth base v a) (n + length a) r
   unfolding digitsIn
   digitsIn-exact [] [] v n d s = let z : n ≡ n + 0 = omega arith in ap (λ k. digits v k []) z
   digitsIn-exact [] (b ∷ r) v n d s = let z : n ≡ n + 0 = omega arith in rw (s, digitsIn) (ap (λ k. digits v k (b ∷ r)) z)

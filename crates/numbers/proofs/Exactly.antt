@@ -1,7 +1,7 @@
 -- A coordinate is accepted exactly when the word means a pair, and then it is that pair; no word means two. Assumes nothing.
 use Prim.Native.Nat.{ℕ, _≤_}
 use native.Mathlib.Omega.{arith}
-use mathlib.Core.Path.{_≡_, refl, sym, ap, _∙_}
+use mathlib.Core.Path.{_≡_, refl}
 use mathlib.Core.Logic.{_↔_}
 use mathlib.Core.List.{List}
 use borrow.Author.Tests.{le-leb, leb-true}
@@ -10,7 +10,7 @@ use lib.IntN.{ℤ}
 use lib.ListN.{length}
 use Rattle.facts.proofs.Branch.{either}
 use Rattle.numbers.specs.declared.decimal.Decimal.{Decimal}
-use Rattle.numbers.specs.Coordinate.{Parts, Reading, is, none, readingOf, kept, coordinateOf}
+use Rattle.numbers.specs.Coordinate.{Reading, is, none, readingOf, kept, coordinateOf}
 use Rattle.numbers.specs.Value.{Means}
 use Rattle.numbers.proofs.Written.{readingOf-exactly}
 use Rattle.numbers.proofs.Value.{keep-exactly, same-pair}
@@ -35,8 +35,11 @@ module _ (w : List ℕ) (m e : ℤ) where
   -- the law
   pub coordinateOf-exactly : (coordinateOf w ≡ Decimal.Is m e) ↔ Means w m e
   unfolding coordinateOf
-  coordinateOf-exactly =
-      (either (λ r. r ≡ Decimal.Is m e → Means w m e) (leb (length w) 64) (λ p. kept-means (leb-true _ _ p) (readingOf w) refl) (λ _ h. not-kept m e h), means-kept)
+  coordinateOf-exactly = (
+    either (λ r. r ≡ Decimal.Is m e → Means w m e) (leb (length w) 64)
+        (λ p. kept-means (leb-true _ _ p) (readingOf w) refl) (λ _ h. not-kept m e h),
+    means-kept,
+  )
 
 -- a word means one pair at most
 pub means-only : (w : List ℕ) (m e m′ e′ : ℤ) → Means w m e → Means w m′ e′ → (m ≡ m′) × (e ≡ e′)

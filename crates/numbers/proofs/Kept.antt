@@ -2,7 +2,7 @@
 use Prim.Native.Nat.{ℕ, _-_, _*_, _^_, _≤_, _<_}
 use native.Mathlib.Nat.{zero-mul}
 use native.Mathlib.Omega.{arith}
-use mathlib.Core.Path.{_≡_, refl, sym, ap, _∙_}
+use mathlib.Core.Path.{_≡_, sym, ap, _∙_}
 use mathlib.Core.List.{List, [], _∷_}
 use mathlib.Core.Bool.{Bool, true, false}
 use borrow.Author.Tests.{le-ltb}
@@ -23,11 +23,10 @@ use Rattle.numbers.specs.declared.scan.Scan.{Scan}
 use Rattle.numbers.specs.declared.decimal.Cut.{Cut}
 use Rattle.numbers.specs.declared.decimal.Decimal.{Decimal}
 use Rattle.numbers.specs.Whole.{wholeOf}
-use Rattle.numbers.specs.Coordinate.{signOf, Signed, signIn, isMark, powerBy, markedOf, powerOf, inRange, cut, fitted, keep}
+use Rattle.numbers.specs.Coordinate.{signOf, Signed, signIn, isMark, powerBy, markedOf, powerOf, inRange, fitted, keep}
 use Rattle.numbers.specs.Parts.{SignAt, Wide, Stands, CutOf, Below, Mild, keepBy}
-use Rattle.numbers.proofs.Tens.{pos-of, at-least, cut-all}
 use Rattle.numbers.proofs.Bases.{whole-below}
-use Rattle.numbers.proofs.Value.{keep-zero, keep-some, fitted-in, fitted-out}
+use Rattle.numbers.proofs.Value.{keep-zero, keep-tens, fitted-in, fitted-out}
 
 -- ---- what is kept of the digits
 module _ (n : Bool) where
@@ -36,15 +35,10 @@ module _ (n : Bool) where
   fitted-wide c e h = rw (le-ltb _ (10 ^ 18) h, fitted)
 
   keep-wide : (d : ℕ) (e : ℤ) → Wide d → keep n d e ≡ Decimal.Not
-  keep-wide d e w =
-      keep-some n d e (omega (arith, w .whole, at-least (w .core) (w .zeros), w .many))
-      ∙ ap (λ c. fitted n c e) (cut-all d (w .core) (w .zeros) (w .whole) (w .ends))
-      ∙ fitted-wide _ e (w .many)
+  keep-wide d e w = keep-tens n d (w .core) (w .zeros) e (w .whole) (w .ends) ∙ fitted-wide _ e (w .many)
 
   keep-cut : (d : ℕ) (e : ℤ) (c : Cut) → CutOf d c → fitted n c e ≡ keep n d e
-  keep-cut d e c k =
-      sym (keep-some n d e (omega (arith, k .whole, at-least (c .m) (c .zeros), pos-of (c .m) (k .ends)))
-      ∙ ap (λ x. fitted n x e) (cut-all d (c .m) (c .zeros) (k .whole) (k .ends)))
+  keep-cut d e c k = sym (keep-tens n d (c .m) (c .zeros) e (k .whole) (k .ends))
 
   module _ (x : Scan) (v : ℕ) (s : Stands x v) (b : ℤ) where
     pub keep-over : x .over ≡ true → Decimal.Not ≡ keep n v b
@@ -72,7 +66,7 @@ mild-sign : (n : Bool) (k : ℕ) → k < 1000 → mag (signOf n k) < 1000
 mild-sign true k h = omega (arith, mag-neg k)
 mild-sign false k h = h
 
-pub mild-by : (n : Bool) (k : Whole) → Below 1000 k → Mild (powerBy n k)
+mild-by : (n : Bool) (k : Whole) → Below 1000 k → Mild (powerBy n k)
 mild-by n (Whole.Is k) b = mild-sign n k b
 mild-by n Whole.Not b = tt
 
@@ -90,7 +84,7 @@ module _ (p : Power) (k : ℤ) (m : Mild p) (e : p ≡ Power.Is k) where
   keepBy-is n v places = rw (back-is, e)
 
 -- ---- what stands behind the `e`
-pub rest-is : (w : List ℕ) (n : ℕ) → take (length w - n) (drop n w) ≡ drop n w
+rest-is : (w : List ℕ) (n : ℕ) → take (length w - n) (drop n w) ≡ drop n w
 rest-is w n = take-all (length w - n) (drop n w) (omega (arith, length-drop n w))
 
 pub marked-is : (w : List ℕ) (at : ℕ) (s : Sign) (k : Whole) → SignAt w at s → k ≡ wholeOf 10 3 (take (length w - s .next) (drop (s .next) w))

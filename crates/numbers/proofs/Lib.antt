@@ -1,11 +1,16 @@
 pub mod Digits
+pub mod Pieces
 pub mod Written
-pub mod Tens
+mod Tens
+pub mod Scaled
 pub mod Value
 pub mod Exactly
 mod Places
+mod Absolute
 mod Exponent
 mod Scanning
 mod Bases
 mod Kept
 mod Words
+pub mod Only
+pub mod Bad

@@ -1,25 +1,24 @@
 -- The parts of a word by places: what the code that stands at a place of the word needs of the definitions. Assumes nothing.
-use Prim.Native.Nat.{ℕ, suc, _+_, _-_, _*_, _≤_, _<_}
+use Prim.Native.Nat.{ℕ, _+_, _*_, _≤_, _<_}
 use native.Mathlib.Numerals.{add-one}
 use native.Mathlib.Omega.{arith}
-use mathlib.Core.Path.{_≡_, refl, sym, ap, _∙_}
+use mathlib.Core.Path.{_≡_, refl, sym, _∙_}
 use mathlib.Core.List.{List, [], _∷_}
-use mathlib.Core.Bool.{Bool, true, false}
+use mathlib.Core.Bool.{true, false}
 use borrow.Author.Tests.{lt-ltb, le-ltb, ltb-true, ltb-false}
 use lib.Dec.{ltb, eqb}
 use lib.IntN.{pos}
 use lib.ListN.{length, drop, getD, drop-of-length-le}
 use lib.Seq.{drop-cons}
 use Rattle.facts.proofs.Branch.{split, differ}
-use Rattle.numbers.specs.declared.scan.Sign.{Sign}
 use Rattle.numbers.specs.declared.scan.Scan.{Scan}
 use Rattle.numbers.specs.declared.power.Power.{Power}
-use Rattle.numbers.specs.Whole.{digitOf, Digits, digits, digitsIn}
-use Rattle.numbers.specs.Coordinate.{signed, signIn, fractionIn, isMark, markedOf, powerOf}
+use Rattle.numbers.specs.Whole.{digitOf, digits, digitsIn}
+use Rattle.numbers.specs.Coordinate.{signIn, fractionIn, isMark, markedOf, powerOf}
 use Rattle.numbers.specs.Value.{unsigned}
-use Rattle.numbers.specs.Parts.{starts, SignAt, Stands, scan, Fair, Shows, Scanned}
+use Rattle.numbers.specs.Parts.{starts, SignAt, Stands, scan, Fair, Scanned}
 use Rattle.numbers.proofs.Digits.{Begins}
-use Rattle.numbers.proofs.Written.{NoSign, NoPoint, signIn-exact, fractionIn-none}
+use Rattle.numbers.proofs.Pieces.{NoSign, NoPoint, signIn-exact, fractionIn-none}
 
 neither : (l : List ℕ) → starts 45 l ≡ false → starts 43 l ≡ false → Begins NoSign l
 unfolding starts
@@ -74,7 +73,8 @@ module _ (w : List ℕ) (at : ℕ) where
       let h = within 43 t in
       record { says = rw (drop-cons w at 0 h, add-one at, starts-here 45 h ∙ n, byte-is 43 t, signIn); within = omega arith }
 
-  pub sign-none : at ≤ length w → starts 45 (drop at w) ≡ false → starts 43 (drop at w) ≡ false → SignAt w at (record { negative = false; next = at })
+  pub sign-none : at ≤ length w → starts 45 (drop at w) ≡ false → starts 43 (drop at w) ≡ false
+      → SignAt w at (record { negative = false; next = at })
   sign-none l n p = record { says = sym (signIn-exact (drop at w) unsigned (neither (drop at w) n p)); within = l }
 
   -- ---- a point
@@ -106,7 +106,8 @@ module _ (w : List ℕ) (x : Scan) (f : Fair w x) where
   pub point-fair : starts 46 (drop (x .next) w) ≡ true → Fair w (behind x (x .next + 1))
   point-fair t = let h = within w (x .next) 46 t in record { short = f .short; within = omega arith; tail = omega (arith, f .tail); count = omega arith }
 
-  pub point-scanned : starts 46 (drop (x .next) w) ≡ true → (r : Scan) → Scanned w (behind x (x .next + 1)) r (λ v. digitsIn 10 v 0 (drop (x .next + 1) w))
+  pub point-scanned : starts 46 (drop (x .next) w) ≡ true → (r : Scan)
+      → Scanned w (behind x (x .next + 1)) r (λ v. digitsIn 10 v 0 (drop (x .next + 1) w))
       → Scanned w x r (λ v. fractionIn v (drop (x .next) w))
   point-scanned t r g =
       record { fair = g .fair; shows = λ v h. rw (sym (point-here w (x .next) v t)) (g .shows v (behind-stands x _ v h)) }
@@ -115,5 +116,7 @@ module _ (w : List ℕ) (x : Scan) (f : Fair w x) where
   plain-scanned n =
       record {
         fair = record { short = f .short; within = f .within; tail = f .tail; count = omega arith };
-        shows = λ v h. rw (fractionIn-none v (drop (x .next) w) (not-point (drop (x .next) w) n)) (record { value = behind-stands x _ v h; count = refl; rest = refl });
+        shows = λ v h.
+            rw (fractionIn-none v (drop (x .next) w) (not-point (drop (x .next) w) n))
+            (record { value = behind-stands x _ v h; count = refl; rest = refl });
       }

@@ -1,18 +1,18 @@
 -- The scan of a coordinate's digits: its state stands for the number that they write. Assumes nothing.
-use Prim.Native.Nat.{ℕ, zero, suc, _+_, _-_, _*_, _%_, _^_, _≤_, _<_}
+use Prim.Native.Nat.{ℕ, zero, suc, _+_, _-_, _*_, _^_, _≤_, _<_}
 use native.Mathlib.Nat.{pow-zero, mul-one}
 use native.Mathlib.Numerals.{add-one}
 use native.Mathlib.Omega.{arith}
 use mathlib.Core.Path.{_≡_, refl, sym, ap, _∙_}
-use mathlib.Core.List.{List, [], _∷_}
-use mathlib.Core.Bool.{Bool, true, false}
+use mathlib.Core.List.{List}
+use mathlib.Core.Bool.{true}
 use borrow.Author.Tests.{ltb-true, ltb-false, eqb-true, eqb-false}
 use lib.Dec.{ltb, eqb}
 use lib.ListN.{length, drop, getD}
 use Rattle.facts.proofs.Branch.{split, either, differ}
 use Rattle.numbers.specs.declared.scan.Scan.{Scan}
 use Rattle.numbers.specs.Whole.{digitOf, Digits, digits, digitsIn}
-use Rattle.numbers.specs.Parts.{Wide, Stands, scan, grown, Fair, Shows, Scanned}
+use Rattle.numbers.specs.Parts.{Wide, Stands, grown, Fair, Shows, Scanned}
 use Rattle.numbers.proofs.Tens.{at-least, times-ten}
 use Rattle.numbers.proofs.Places.{digitsIn-more, digitsIn-stop, digitsIn-past}
 
@@ -21,7 +21,13 @@ wide-more : (v d : ℕ) → Wide v → d < 10 → Wide (v * 10 + d)
 wide-more v zero w h =
     record { core = w .core; zeros = suc (w .zeros); whole = omega (arith, times-ten (w .core) (w .zeros), w .whole); ends = w .ends; many = w .many }
 wide-more v (suc d) w h =
-    record { core = v * 10 + suc d; zeros = 0; whole = rw (pow-zero, mul-one); ends = omega arith; many = omega (arith, w .whole, at-least (w .core) (w .zeros)) }
+    record {
+      core = v * 10 + suc d;
+      zeros = 0;
+      whole = rw (pow-zero, mul-one);
+      ends = omega arith;
+      many = omega (arith, w .whole, at-least (w .core) (w .zeros));
+    }
 
 module _ (m t v d : ℕ) (e : v ≡ m * 10 ^ t) where
   into-room : t ≡ 0 → v * 10 + d ≡ (m * 10 + d) * 10 ^ t
@@ -65,13 +71,13 @@ unfolding grown
 fair-grown w x d f h =
     either (Fair w) (ltb (x .m) (10 ^ 17)) (λ _. omega arith) (λ _. either (Fair w) (eqb d 0) (λ _. omega arith) (λ _. omega arith))
 
-grown-next : (x : Scan) (d : ℕ) → grown x d .next ≡ x .next + 1
-unfolding grown
-grown-next x d = either (λ (r : Scan). r .next ≡ x .next + 1) (ltb (x .m) (10 ^ 17)) (λ _. refl) (λ _. either (λ (r : Scan). r .next ≡ x .next + 1) (eqb d 0) (λ _. refl) (λ _. refl))
+abbrev OneMore : Scan → Scan → Type 0
+OneMore x r = (r .next ≡ x .next + 1) × (r .count ≡ x .count + 1)
 
-grown-count : (x : Scan) (d : ℕ) → grown x d .count ≡ x .count + 1
+grown-more : (x : Scan) (d : ℕ) → OneMore x (grown x d)
 unfolding grown
-grown-count x d = either (λ (r : Scan). r .count ≡ x .count + 1) (ltb (x .m) (10 ^ 17)) (λ _. refl) (λ _. either (λ (r : Scan). r .count ≡ x .count + 1) (eqb d 0) (λ _. refl) (λ _. refl))
+grown-more x d =
+    either (OneMore x) (ltb (x .m) (10 ^ 17)) (λ _. (refl, refl)) (λ _. either (OneMore x) (eqb d 0) (λ _. (refl, refl)) (λ _. (refl, refl)))
 
 -- ---- on the way: what is left, behind what the state stands for, is what there was
 pub record Going (w : List ℕ) (x : Scan) (d : Digits) : Type 0 where
@@ -86,14 +92,21 @@ pub scan-start : (w : List ℕ) (x : Scan) → Fair w x → Fair w x × Runs w x
 scan-start w x f = (f, λ v h. record { number = v; stands = h; same = refl })
 
 pub scan-less : (w : List ℕ) (x r : Scan) (d : ℕ) → r ≡ grown x d → x .next < length w → length w - r .next < length w - x .next
-scan-less w x r d q h = omega (arith, ap (λ (r : Scan). r .next) q, grown-next x d)
+scan-less w x r d q h = omega (arith, ap (λ (r : Scan). r .next) q, grown-more x d)
 
 module _ (w : List ℕ) (from x : Scan) (f : Fair w x) (g : Runs w from x) where
-  shown : ((v : ℕ) → digits v (x .count) (drop (x .next) w) ≡ digitsIn 10 v (x .count) (drop (x .next) w)) → Scanned w from x (λ v. digitsIn 10 v (from .count) (drop (from .next) w))
+  shown : ((v : ℕ) → digits v (x .count) (drop (x .next) w) ≡ digitsIn 10 v (x .count) (drop (x .next) w))
+      → Scanned w from x (λ v. digitsIn 10 v (from .count) (drop (from .next) w))
   shown e = record { fair = f; shows = λ v h. shows (g v h) }
     where
       shows : {d : Digits} → Going w x d → Shows w x d
-      shows k = let q = e (k .number) ∙ k .same in record { value = rw (sym (ap (λ (d : Digits). d .value) q)) (k .stands); count = ap (λ (d : Digits). d .count) q; rest = ap (λ (d : Digits). d .rest) q }
+      shows k =
+          let q = e (k .number) ∙ k .same in
+          record {
+            value = rw (sym (ap (λ (d : Digits). d .value) q)) (k .stands);
+            count = ap (λ (d : Digits). d .count) q;
+            rest = ap (λ (d : Digits). d .rest) q;
+          }
 
   pub scan-past : length w ≤ x .next → Scanned w from x (λ v. digitsIn 10 v (from .count) (drop (from .next) w))
   scan-past h = shown (λ v. digitsIn-past w (x .next) 10 v (x .count) h)
@@ -109,6 +122,6 @@ module _ (w : List ℕ) (from x : Scan) (f : Fair w x) (g : Runs w from x) where
           λ v s. let k = g v s in record {
             number = k .number * 10 + d;
             stands = stands-grown x (k .number) d t (k .stands);
-            same = rw (grown-next x d, grown-count x d) (digitsIn-more w (x .next) 10 (k .number) (x .count) d h e t) ∙ k .same;
+            same = rw (grown-more x d .0, grown-more x d .1) (digitsIn-more w (x .next) 10 (k .number) (x .count) d h e t) ∙ k .same;
           },
         )

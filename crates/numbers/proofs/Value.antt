@@ -1,108 +1,22 @@
 -- The pair that is kept has the value, is canonical, and is the only canonical pair that has it. Assumes nothing.
-use Prim.Native.Nat.{ℕ, zero, suc, _+_, _-_, _*_, _/_, _%_, _^_, _≤_, _<_}
-use native.Mathlib.Nat.{mul-one, pow-zero, zero-mul}
+use Prim.Native.Nat.{ℕ, zero, suc, _+_, _*_, _%_, _^_, _≤_, _<_}
+use native.Mathlib.Nat.{zero-mul}
 use native.Mathlib.Omega.{arith}
-use lib.Pow.{pow-add}
 use mathlib.Core.Path.{_≡_, refl, sym, ap, _∙_}
 use mathlib.Core.Logic.{_↔_}
-use mathlib.Core.Bool.{Bool, true, false, _&&_}
-use borrow.Author.Tests.{lt-ltb, le-ltb, ltb-false, ltb-true, eqb-true, eqb-false, eq-eqb, ne-eqb}
+use mathlib.Core.Bool.{Bool, true, false}
+use borrow.Author.Tests.{lt-ltb, ltb-false, ltb-true, eqb-true, eqb-false, eq-eqb, ne-eqb}
 use lib.Dec.{lit<, ltb, eqb}
-use lib.IntN.{pos-ne-negsuc, ℤ, pos, negsuc, negℤ, natAbs, _+ℤ_, _-ℤ_, _*ℤ_, +ℤ-assoc, +ℤ-comm, +ℤ-negℤ-cancel}
+use lib.IntN.{ℤ, pos, negsuc, natAbs, _+ℤ_, _-ℤ_, _*ℤ_, +ℤ-negℤ-cancel}
 use lib.Signed.{leZ}
 use Rattle.facts.proofs.Branch.{split, either}
 use Rattle.numbers.specs.declared.decimal.Cut.{Cut}
 use Rattle.numbers.specs.declared.decimal.Decimal.{Decimal}
-use Rattle.numbers.specs.Coordinate.{signOf, inRange, cut, fitted, keep}
+use Rattle.numbers.specs.Coordinate.{signOf, inRange, fitted, keep}
 use Rattle.numbers.specs.Value.{SameValue, Canonical}
 use Rattle.numbers.proofs.Digits.{and-left, and-right}
-use Rattle.numbers.proofs.Tens.{cutAs, pos-of, at-least, times-ten, cut-all}
-
--- ---- a number parts in one way only
-tens-unique : (m n a b : ℕ) → (m % 10 ≡ 0 → ⊥) → (n % 10 ≡ 0 → ⊥) → m * 10 ^ a ≡ n * 10 ^ b → (m ≡ n) × (a ≡ b)
-tens-unique m n a b p q e =
-    let c = sym (cut-all (m * 10 ^ a) m a refl p) ∙ cut-all (m * 10 ^ a) n b e q in
-    (ap (λ x. x .m) c, ap (λ x. x .zeros) c)
-
-abs-times : (m : ℤ) (p : ℕ) → natAbs (m *ℤ pos p) ≡ natAbs m * p
-abs-times (pos m) p = refl
-abs-times (negsuc m) p = abs-neg (suc m * p)
-  where
-    abs-neg : (k : ℕ) → natAbs (negℤ (pos k)) ≡ k
-    abs-neg zero = refl
-    abs-neg (suc k) = refl
-
-not-neg : (x k : ℕ) → pos x ≡ negℤ (pos k) → k ≡ 0
-not-neg x zero e = refl
-not-neg x (suc k) e = absurd (pos-ne-negsuc x k e)
-
--- ---- the value
-abbrev up : ℤ → ℕ
-up (pos n) = n
-up (negsuc n) = 0
-
-abbrev down : ℤ → ℕ
-down (pos n) = 0
-down (negsuc n) = suc n
-
-lifted : (x : ℤ) → x +ℤ pos (down x) ≡ pos (up x)
-lifted (pos n) = ap pos (omega arith)
-lifted (negsuc n) = rw (le-ltb (suc n) (suc n) (omega arith)) (ap pos (omega arith))
-
-lifted-more : (x : ℤ) (z : ℕ) → x +ℤ pos z +ℤ pos (down x) ≡ pos (up x + z)
-lifted-more x z = +ℤ-assoc x (pos z) (pos (down x)) ∙ ap (λ y. x +ℤ y) (+ℤ-comm (pos z) (pos (down x))) ∙ sym (+ℤ-assoc x (pos (down x)) (pos z)) ∙ ap (λ y. y +ℤ pos z) (lifted x)
-
-neg-times : (a p : ℕ) → negℤ (pos a) *ℤ pos p ≡ negℤ (pos (a * p))
-neg-times zero p = rw zero-mul
-neg-times (suc a) p = refl
-
-sign-times : (n : Bool) (a p : ℕ) → signOf n a *ℤ pos p ≡ signOf n (a * p)
-sign-times true a p = neg-times a p
-sign-times false a p = refl
-
-pub regroup : (m z u : ℕ) → m * 10 ^ (u + z) ≡ m * 10 ^ z * 10 ^ u
-regroup m z u = rw (pow-add 10 u z) (omega arith)
-
-pub cut-same : (n : Bool) (d m z : ℕ) (x : ℤ) → d ≡ m * 10 ^ z → SameValue (signOf n m) (x +ℤ pos z) (signOf n d) x
-cut-same n d m z x e =
-    record {
-      shift = down x;
-      left = up x + z;
-      right = up x;
-      left-is = lifted-more x z;
-      right-is = lifted x;
-      same = sign-times n m _ ∙ ap (signOf n) (regroup m z (up x) ∙ ap (λ k. k * 10 ^ up x) (sym e)) ∙ sym (sign-times n d _);
-    }
-
-zero-same : (n : Bool) (d : ℕ) (x : ℤ) → d ≡ 0 → SameValue (pos 0) (pos 0) (signOf n d) x
-zero-same n d x e =
-    record {
-      shift = down x;
-      left = 0 + down x;
-      right = up x;
-      left-is = refl;
-      right-is = lifted x;
-      same = ap pos (zero-mul _) ∙ sym (sign-times n d _ ∙ rw (e, zero-mul) (sign-zero n));
-    }
-  where
-    sign-zero : (n : Bool) → signOf n 0 ≡ pos 0
-    sign-zero true = refl
-    sign-zero false = refl
-
--- ---- every number but 0 is m · 10 ^ z with an m that ten does not divide
-pub record Tens (d : ℕ) : Type 0 where
-  pub core : ℕ
-  pub zeros : ℕ
-  pub whole : d ≡ core * 10 ^ zeros
-  pub ends : core % 10 ≡ 0 → ⊥
-
-pub tens-of : (f d : ℕ) → d ≤ f → 1 ≤ d → Tens d
-tens-of zero d h g = absurd (omega arith)
-tens-of (suc f) d h g =
-    split (eqb (d % 10) 0)
-    (λ p. let e = eqb-true (d % 10) 0 p in let t = tens-of f (d / 10) (omega arith) (omega arith) in
-    record { core = t .core; zeros = suc (t .zeros); whole = omega (arith, times-ten (t .core) (t .zeros), t .whole); ends = t .ends })
-    (λ p. record { core = d; zeros = 0; whole = rw (pow-zero, mul-one); ends = eqb-false (d % 10) 0 p })
+use Rattle.numbers.proofs.Tens.{cutAs, pos-of, at-least, cut-all}
+use Rattle.numbers.proofs.Scaled.{abs-sign, abs-times, sign-times, sign-is, tens-unique, swapped, regroup, cut-same, zero-same, same-refl, Tens, tens-of}
 
 -- ---- what is kept
 abbrev pub Holds : (ℤ → ℤ → Type 0) → Decimal → Type 0
@@ -111,11 +25,6 @@ Holds P Decimal.Not = Unit
 
 abbrev Right : Bool → ℕ → ℤ → ℤ → ℤ → Type 0
 Right n d x m e = SameValue m e (signOf n d) x × Canonical m e
-
-abs-sign : (n : Bool) (k : ℕ) → natAbs (signOf n k) ≡ k
-abs-sign true zero = refl
-abs-sign true (suc k) = refl
-abs-sign false k = refl
 
 in-range : (e : ℤ) → leZ (negsuc 399) e ≡ true → leZ e (pos 400) ≡ true → inRange e ≡ true
 unfolding inRange
@@ -137,7 +46,13 @@ module _ (n : Bool) (d : ℕ) (x : ℤ) where
       (λ p. either (Holds (Right n d x)) (inRange (x +ℤ pos z))
       (λ q. (
         cut-same n d m z x e,
-        record { zero-is = λ y. absurd (omega (arith, pos-of m h, sym (abs-sign n m) ∙ ap natAbs y)); ends = λ _. rw (abs-sign n m) h; few = rw (abs-sign n m) (ltb-true m (10 ^ 18) p); low = range-low _ q; high = range-high _ q },
+        record {
+          zero-is = λ y. absurd (omega (arith, pos-of m h, sym (abs-sign n m) ∙ ap natAbs y));
+          ends = λ _. rw (abs-sign n m) h;
+          few = rw (abs-sign n m) (ltb-true m (10 ^ 18) p);
+          low = range-low _ q;
+          high = range-high _ q;
+        },
       ))
       (λ _. tt))
       (λ _. tt)
@@ -154,19 +69,15 @@ holds-is : (P : ℤ → ℤ → Type 0) (r : Decimal) (m e : ℤ) → Holds P r 
 holds-is P r m e h q = rw q at h
 
 -- ---- and nothing else is kept
-sign-is : (m : ℤ) (n : Bool) (p q : ℕ) → m *ℤ pos p ≡ signOf n q → 1 ≤ q → m ≡ signOf n (natAbs m)
-sign-is (pos a) false p q e h = refl
-sign-is (pos a) true p q e h = absurd (omega (arith, not-neg (a * p) q e))
-sign-is (negsuc a) true p q e h = refl
-sign-is (negsuc a) false p q e h = absurd (omega (arith, ap natAbs (sym e ∙ ap (λ k. negℤ (pos k)) (not-neg q (suc a * p) (sym e)))))
-
 pub keep-zero : (n : Bool) (d : ℕ) (x : ℤ) → d ≡ 0 → Decimal.Is (pos 0) (pos 0) ≡ keep n d x
 unfolding keep
 keep-zero n d x h = rw (eq-eqb d 0 h, keep)
 
-pub keep-some : (n : Bool) (d : ℕ) (x : ℤ) → 1 ≤ d → keep n d x ≡ fitted n (cut d d 0) x
+pub keep-tens : (n : Bool) (d m z : ℕ) (x : ℤ) → d ≡ m * 10 ^ z → (m % 10 ≡ 0 → ⊥) → keep n d x ≡ fitted n (cutAs m z) x
 unfolding keep
-keep-some n d x h = rw (ne-eqb d 0 (λ e. omega arith), keep)
+keep-tens n d m z x e h =
+    let g : 1 ≤ d = omega (arith, e, at-least m z, pos-of m h) in
+    rw (ne-eqb d 0 (λ e. omega arith), keep) (ap (λ c. fitted n c x) (cut-all d m z e h))
 
 module _ (n : Bool) (c : Cut) (e : ℤ) (h : c .m < 10 ^ 18) where
   pub fitted-in : inRange (e +ℤ pos (c .zeros)) ≡ true → Decimal.Is (signOf n (c .m)) (e +ℤ pos (c .zeros)) ≡ fitted n c e
@@ -216,15 +127,16 @@ module _ (n : Bool) (d : ℕ) (x m e : ℤ) (s : SameValue m e (signOf n d) x) (
     exponent-is : e ≡ x +ℤ pos (t .zeros)
     exponent-is =
         sym (+ℤ-negℤ-cancel e (pos (s .shift)))
-        ∙ ap (λ y. y -ℤ pos (s .shift)) (s .left-is ∙ ap pos (parted .1) ∙ ap (λ y. y +ℤ pos (t .zeros)) (sym (s .right-is)) ∙ +ℤ-assoc x (pos (s .shift)) (pos (t .zeros)) ∙ ap (λ y. x +ℤ y) (+ℤ-comm (pos (s .shift)) (pos (t .zeros))) ∙ sym (+ℤ-assoc x (pos (t .zeros)) (pos (s .shift))))
+        ∙ ap (λ y. y -ℤ pos (s .shift)) (
+        s .left-is ∙ ap pos (parted .1) ∙ ap (λ y. y +ℤ pos (t .zeros)) (sym (s .right-is)) ∙ swapped x (s .shift) (t .zeros)
+        )
         ∙ +ℤ-negℤ-cancel (x +ℤ pos (t .zeros)) (pos (s .shift))
 
     some-kept : Decimal.Is m e ≡ keep n d x
     some-kept =
         rw (mantissa-is, exponent-is)
         (fitted-in n (cutAs (t .core) (t .zeros)) x (rw (parted .0) at (c .few)) (rw exponent-is at (in-range e (c .low) (c .high)))
-        ∙ ap (λ k. fitted n k x) (sym (cut-all d (t .core) (t .zeros) (t .whole) (t .ends)))
-        ∙ sym (keep-some n d x g))
+        ∙ sym (keep-tens n d (t .core) (t .zeros) x (t .whole) (t .ends)))
 
   kept-is : Decimal.Is m e ≡ keep n d x
   kept-is = split (eqb d 0) (λ p. zero-kept (eqb-true d 0 p)) (λ p. some-kept (positive p) (tens-of d d (omega arith) (positive p)))
@@ -236,13 +148,12 @@ module _ (n : Bool) (d : ℕ) (x m e : ℤ) (s : SameValue m e (signOf n d) x) (
 pub keep-exactly : (n : Bool) (d : ℕ) (x m e : ℤ) → (keep n d x ≡ Decimal.Is m e) ↔ (SameValue m e (signOf n d) x × Canonical m e)
 keep-exactly n d x m e = (holds-is (Right n d x) (keep n d x) m e (keep-right n d x), λ h. sym (kept-is n d x m e (h .0) (h .1)))
 
-same-refl : (m e : ℤ) → SameValue m e m e
-same-refl m e = record { shift = down e; left = up e; right = up e; left-is = lifted e; right-is = lifted e; same = refl }
-
 pub same-pair : {r : Decimal} {m e m′ e′ : ℤ} → r ≡ Decimal.Is m e → r ≡ Decimal.Is m′ e′ → (m ≡ m′) × (e ≡ e′)
 same-pair p q = (cc, cc)
 
 -- no other canonical pair has the value of a canonical pair
 pub canonical-only : (m e m′ e′ : ℤ) → Canonical m e → Canonical m′ e′ → SameValue m e m′ e′ → (m ≡ m′) × (e ≡ e′)
-canonical-only m e (pos a) e′ c d s = same-pair (keep-exactly false a e′ m e .1 (s, c)) (keep-exactly false a e′ (pos a) e′ .1 (same-refl (pos a) e′, d))
-canonical-only m e (negsuc a) e′ c d s = same-pair (keep-exactly true (suc a) e′ m e .1 (s, c)) (keep-exactly true (suc a) e′ (negsuc a) e′ .1 (same-refl (negsuc a) e′, d))
+canonical-only m e (pos a) e′ c d s =
+    same-pair (keep-exactly false a e′ m e .1 (s, c)) (keep-exactly false a e′ (pos a) e′ .1 (same-refl (pos a) e′, d))
+canonical-only m e (negsuc a) e′ c d s =
+    same-pair (keep-exactly true (suc a) e′ m e .1 (s, c)) (keep-exactly true (suc a) e′ (negsuc a) e′ .1 (same-refl (negsuc a) e′, d))

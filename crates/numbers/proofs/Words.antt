@@ -1,10 +1,10 @@
 -- A whole coordinate word: what its parts, read one behind the other, say together. Assumes nothing.
-use Prim.Native.Nat.{ℕ, _+_, _*_, _^_, _≤_, _<_}
+use Prim.Native.Nat.{ℕ, _+_, _^_, _≤_, _<_}
 use native.Mathlib.Nat.{zero-mul}
 use native.Mathlib.Omega.{arith}
 use mathlib.Core.Path.{_≡_, refl, sym, ap, _∙_}
 use mathlib.Core.List.{List}
-use mathlib.Core.Bool.{Bool, true, false}
+use mathlib.Core.Bool.{Bool, false}
 use borrow.Author.Tests.{le-leb, lt-leb, eq-eqb, ne-eqb}
 use lib.Dec.{lit<}
 use lib.ListN.{length, drop}
@@ -14,8 +14,8 @@ use Rattle.numbers.specs.declared.scan.Sign.{Sign}
 use Rattle.numbers.specs.declared.scan.Scan.{Scan}
 use Rattle.numbers.specs.declared.decimal.Decimal.{Decimal}
 use Rattle.numbers.specs.Whole.{Digits, digitsIn}
-use Rattle.numbers.specs.Coordinate.{Signed, signIn, fractionIn, powerOf, Reading, is, none, partsOf, readingBy, frontOf, backOf, readingOf, keep, kept, coordinateOf}
-use Rattle.numbers.specs.Parts.{SignAt, Stands, scan, Fair, Shows, Scanned, Ready, keepBy}
+use Rattle.numbers.specs.Coordinate.{Signed, signIn, fractionIn, powerOf, none, readingBy, frontOf, backOf, readingOf, kept, coordinateOf}
+use Rattle.numbers.specs.Parts.{SignAt, Stands, scan, Shows, Scanned, Ready, keepBy}
 
 module _ (w : List ℕ) where
   pub long-not : 64 < length w → Decimal.Not ≡ coordinateOf w
@@ -42,9 +42,6 @@ start-stands : (at : ℕ) → Stands (start at) 0
 start-stands at = record { less = lit< tt; room = λ _. refl; exact = λ _. sym (zero-mul (10 ^ 0)); wide = λ o. differ false o refl }
 
 module _ (w : List ℕ) (l : length w ≤ 64) (s : Sign) (g : SignAt w 0 s) where
-  pub start-fair : Fair w (start (s .next))
-  start-fair = record { short = l; within = g .within; tail = omega arith; count = omega arith }
-
   module _ (front : Scan) (a : Scanned w (start (s .next)) front (λ v. digitsIn 10 v 0 (drop (s .next) w))) where
     front-shows : Shows w front (frontOf w)
     front-shows = rw (ap (λ (x : Signed). digitsIn 10 0 0 (x .rest)) (g .says)) at (a .shows 0 (start-stands (s .next)))

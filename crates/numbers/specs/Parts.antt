@@ -1,11 +1,11 @@
 -- What the functions inside this crate owe one another. Nothing here has to be believed: the public contracts do not cite it. Assumes nothing.
-use Prim.Native.Nat.{ℕ, suc, _+_, _*_, _%_, _^_, _≤_, _<_}
+use Prim.Native.Nat.{ℕ, _+_, _*_, _%_, _^_, _≤_, _<_}
 use mathlib.Core.Path.{_≡_}
 use mathlib.Core.List.{List, [], _∷_}
 use mathlib.Core.Bool.{Bool, true, false}
 use lib.ListN.{length, drop}
 use lib.Dec.{ltb, eqb}
-use lib.IntN.{ℤ, pos, _-ℤ_}
+use lib.IntN.{pos, _-ℤ_}
 use lib.Signed.{mag}
 use Rattle.sizes.specs.Sizes.{coordinateBytes, coordinateDigits}
 use Rattle.numbers.specs.declared.whole.Whole.{Whole}

@@ -11,6 +11,7 @@ mod whole;
 
 pub use coordinates::coordinate;
 pub use decimal::Decimal;
+pub use signed::magnitude;
 pub use sort::Sort;
 pub use sort::bad_at;
 pub use whole::Whole;

@@ -1,7 +1,7 @@
-// Signs: a magnitude negated or not, an exponent as a sum, and its range.
+// Signs: a magnitude negated or not, and back, an exponent as a sum, and its range.
 ghost use mathlib.Core.Path.{_≡_};
 ghost use Prim.Native.Nat.{_<_, _≤_, _^_};
-ghost use lib.IntN.{pos, _+ℤ_, _-ℤ_};
+ghost use lib.IntN.{pos, natAbs, _+ℤ_, _-ℤ_};
 ghost use lib.Signed.{mag};
 ghost use Rattle.numbers.specs.Coordinate.{signOf, inRange};
 
@@ -23,6 +23,18 @@ pub(crate) fn with_sign32(negative: bool, m: u32) -> i32
         return -(m as i32);
     }
     m as i32
+}
+
+// The number without its sign. The negation of -2^63 is no i64, that of one more is.
+pub fn magnitude(m: i64) -> u64
+    ensures { λ r. ⌜ r ≡ natAbs m ⌝ }
+{
+    if m < 0 {
+        let above = m + 1;
+        let less = -above;
+        return less as u64 + 1;
+    }
+    m as u64
 }
 
 // A power k, less the places behind the point, and the zeros dropped at the end.

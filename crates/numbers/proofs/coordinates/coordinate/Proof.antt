@@ -1,19 +1,11 @@
-use mathlib.Core.Path.{_∙_}
+-- `numbers::coordinate` answers what the whole word says. Assumes nothing.
 use Rattle.numbers.proofs.Kept.{mild}
 use Rattle.numbers.proofs.Words.{long-not, back-ready, none-is, found-is}
 use borrow.Author.Needs.{needs}
-use native.Mathlib.Omega.{arith}
-use borrow.Author.Needs.{needs}
 use Rattle.numbers.proofs.coordinates.coordinate.Statement.{statement}
 use Rattle.numbers.proofs.coordinates.coordinate.Tie as tie
-use Rattle.numbers.proofs.coordinates.coordinate.Reads as reads
-use Rattle.numbers.proofs.coordinates.coordinate.Lts as lts
-use Rattle.numbers.proofs.decimal.finish_by.Reads as finish-by-reads
-use Rattle.numbers.proofs.power.power_at.Reads as power-at-reads
-use Rattle.numbers.proofs.scan.digits_from.Reads as digits-from-reads
-use Rattle.numbers.proofs.scan.fraction_from.Reads as fraction-from-reads
-use Rattle.numbers.proofs.scan.sign_at.Reads as sign-at-reads
 
+-- over 64 bytes
 returns : tie.Need-returns
 returns c = long-not _ (c .if1 .taken)
 
@@ -29,6 +21,7 @@ fraction-from-requires c κs = search needs
 add-digits : tie.Need-add-digits
 add-digits c = search needs
 
+-- no digit
 returns-2 : tie.Need-returns-2
 returns-2 c =
     let f = c .before .before .before in
@@ -41,15 +34,19 @@ power-at-requires c κs = search needs
 finish-by-requires : tie.Need-finish-by-requires
 finish-by-requires c κs =
     let f = c .before .before .before .before in
-    let s = f .before .before in
-    (back-ready _ (s .before .if1 .left) _ (s .sign-at .ensures) _ (f .before .digits-from .ensures) _ (f .fraction-from .ensures), rw (c .power-at .ensures) (mild _))
+    let s = f .before .before in (
+      back-ready _ (s .before .if1 .left) _ (s .sign-at .ensures) _ (f .before .digits-from .ensures) _ (f .fraction-from .ensures),
+      rw (c .power-at .ensures) (mild _),
+    )
 
+-- digits, and what stands behind them
 returns-3 : tie.Need-returns-3
 returns-3 c =
     let p = c .before in
     let f = p .before .before .before .before in
     let s = f .before .before in
-    found-is _ (s .before .if1 .left) _ (s .sign-at .ensures) _ (f .before .digits-from .ensures) _ (f .fraction-from .ensures) (p .before .if2 .left) _ (p .power-at .ensures) _ (c .finish-by .ensures)
+    found-is _ (s .before .if1 .left) _ (s .sign-at .ensures) _ (f .before .digits-from .ensures) _ (f .fraction-from .ensures)
+    (p .before .if2 .left) _ (p .power-at .ensures) _ (c .finish-by .ensures)
 
 pub coordinate-spec : {M : Type 1} → statement M
 coordinate-spec =

@@ -1,12 +1,10 @@
+-- `cut_of` drops the zeros at the end. Its loop keeps v and the zeros dropped as the same number. Assumes nothing.
 use mathlib.Core.Path.{refl}
 use Prim.Native.Nat.{_*_, _^_}
 use Rattle.numbers.proofs.Tens.{Cutting, cutting, few}
-use borrow.Author.Needs.{needs}
 use native.Mathlib.Omega.{arith}
 use Rattle.numbers.proofs.decimal.cut_of.Statement.{statement}
 use Rattle.numbers.proofs.decimal.cut_of.Tie as tie
-use Rattle.numbers.proofs.decimal.cut_of.Reads as reads
-use Rattle.numbers.proofs.decimal.cut_of.Lts as lts
 
 abbrev Inv-loop : tie.InvT-loop
 Inv-loop m tail v₀ zeros₀ v zeros = Cutting (m * 10 ^ tail) v zeros
@@ -26,8 +24,16 @@ loop-less c = omega arith
 loop-again : tie.Need-loop-again Inv-loop μ-loop
 loop-again c = cutting _ _ _ (c .before .loop .inv) (c .loop-test .taken)
 
+-- the last digit is not 0
 returns : tie.Need-returns Inv-loop μ-loop
-returns c = record { whole = c .before .loop .inv .whole; ends = c .loop-test .left; less = c .before .loop .inv .less; few = omega (arith, few _ _ _ _ (c .before .before .pre .1) (c .before .loop .inv)) }
+returns c =
+    let i = c .before .loop .inv in
+    record {
+      whole = i .whole;
+      ends = c .loop-test .left;
+      less = i .less;
+      few = omega (arith, few _ _ _ _ (c .before .before .pre .1) i);
+    }
 
 pub cut-of-spec : {M : Type 1} → statement M
 cut-of-spec =

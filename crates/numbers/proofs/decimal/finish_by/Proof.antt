@@ -1,13 +1,9 @@
+-- `finish_by` keeps the pair of the digits and the power, where there is a power. Assumes nothing.
 use mathlib.Core.Path.{_∙_}
 use Rattle.numbers.proofs.Kept.{back-mild, keepBy-is}
 use borrow.Author.Needs.{needs}
-use native.Mathlib.Omega.{arith}
-use borrow.Author.Needs.{needs}
 use Rattle.numbers.proofs.decimal.finish_by.Statement.{statement}
 use Rattle.numbers.proofs.decimal.finish_by.Tie as tie
-use Rattle.numbers.proofs.decimal.finish_by.Reads as reads
-use Rattle.numbers.proofs.decimal.finish_by.Lts as lts
-use Rattle.numbers.proofs.decimal.finish_of.Reads as finish-of-reads
 
 enum-known-p : tie.Need-enum-known-p
 enum-known-p c = search needs
@@ -18,9 +14,11 @@ finish-of-requires c κs = let q = c .before .before .before .pre in (q .0, back
 enum-told : tie.Need-enum-told
 enum-told c = search needs
 
+-- a power
 returns : tie.Need-returns
 returns c = λ v s. c .finish-of .ensures v s ∙ keepBy-is _ _ (c .before .before .before .before .pre .1) (c .before .before .p .given .1) _ _ _
 
+-- no power
 returns-2 : tie.Need-returns-2
 returns-2 c = λ v s. rw (c .enum-told .given .1)
 

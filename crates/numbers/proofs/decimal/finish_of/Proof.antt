@@ -1,23 +1,18 @@
+-- `finish_of` keeps the canonical pair of the digits and the power. Assumes nothing.
 use borrow.Author.Needs.{sfits-of}
 use mathlib.Core.Path.{_∙_}
 use mir.Syntax.{w32, w64}
 use mir.ValLaws.{toZ-ofZ}
 use Rattle.numbers.proofs.Kept.{keep-over, keep-nought, keeps, refuses}
 use borrow.Author.Needs.{needs}
-use native.Mathlib.Omega.{arith}
-use borrow.Author.Needs.{needs}
 use Rattle.numbers.proofs.decimal.finish_of.Statement.{statement}
 use Rattle.numbers.proofs.decimal.finish_of.Tie as tie
-use Rattle.numbers.proofs.decimal.finish_of.Reads as reads
-use Rattle.numbers.proofs.decimal.finish_of.Lts as lts
-use Rattle.numbers.proofs.decimal.cut_of.Reads as cut-of-reads
-use Rattle.numbers.proofs.signed.exponent_of.Reads as exponent-of-reads
-use Rattle.numbers.proofs.signed.in_range.Reads as in-range-reads
-use Rattle.numbers.proofs.signed.with_sign.Reads as with-sign-reads
 
+-- more than 18 digits
 returns : tie.Need-returns
 returns c = λ v s. keep-over _ _ v s _ (c .if1 .taken)
 
+-- zero
 returns-2 : tie.Need-returns-2
 returns-2 c = λ v s. keep-nought _ _ v s _ (c .before .before .if1 .left) (c .if2 .taken)
 
@@ -33,14 +28,17 @@ with-sign-requires c κs = search needs
 in-range-requires : tie.Need-in-range-requires
 in-range-requires c κs = search needs
 
+-- the exponent is in its range
 returns-3 : tie.Need-returns-3
 returns-3 c =
     let e = c .before .before .before in
     let b = e .before .before .before .before in
     λ v s. keeps _ _ v s _ (b .if1 .left) _ (e .before .cut-of .ensures) _
     (toZ-ofZ w32 _ (sfits-of (e .exponent-of .ok)) ∙ e .exponent-of .ensures ∙ rw (toZ-ofZ w32 _ (b .before .fits .k))) _
-    (c .before .in-range .ensures) _ (toZ-ofZ w64 _ (sfits-of (c .before .before .with-sign .ok)) ∙ c .before .before .with-sign .ensures) (c .if3 .taken)
+    (c .before .in-range .ensures)
+    _ (toZ-ofZ w64 _ (sfits-of (c .before .before .with-sign .ok)) ∙ c .before .before .with-sign .ensures) (c .if3 .taken)
 
+-- the exponent is out of its range
 returns-4 : tie.Need-returns-4
 returns-4 c =
     let e = c .before .before .before in

@@ -1,14 +1,13 @@
+-- `is_within` tests both bounds. Assumes nothing.
 use borrow.Author.Tests.{le-leb, lt-leb}
-use borrow.Author.Needs.{needs}
-use native.Mathlib.Omega.{arith}
 use Rattle.numbers.proofs.digit.is_within.Statement.{statement}
 use Rattle.numbers.proofs.digit.is_within.Tie as tie
-use Rattle.numbers.proofs.digit.is_within.Reads as reads
-use Rattle.numbers.proofs.digit.is_within.Lts as lts
 
+-- not below the lower bound
 returns : tie.Need-returns
 returns c = rw (le-leb _ _ (c .if1 .taken))
 
+-- below the lower bound
 returns-2 : tie.Need-returns-2
 returns-2 c = rw (lt-leb _ _ (c .if1 .left))
 

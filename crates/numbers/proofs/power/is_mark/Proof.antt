@@ -1,14 +1,13 @@
+-- `is_mark` knows `e` and `E`. Assumes nothing.
 use borrow.Author.Tests.{eq-eqb, ne-eqb}
-use borrow.Author.Needs.{needs}
-use native.Mathlib.Omega.{arith}
 use Rattle.numbers.proofs.power.is_mark.Statement.{statement}
 use Rattle.numbers.proofs.power.is_mark.Tie as tie
-use Rattle.numbers.proofs.power.is_mark.Reads as reads
-use Rattle.numbers.proofs.power.is_mark.Lts as lts
 
+-- `e`
 returns : tie.Need-returns
 returns c = rw (eq-eqb _ _ (c .if1 .taken))
 
+-- another byte: `E` or not
 returns-2 : tie.Need-returns-2
 returns-2 c = rw (ne-eqb _ _ (c .if1 .left))
 

@@ -1,17 +1,11 @@
+-- `marked_at` reads the power behind the `e`. Assumes nothing.
 use lib.Dec.{lit<}
 use mathlib.Core.Path.{_∙_}
 use Rattle.numbers.proofs.Bases.{whole-below}
 use Rattle.numbers.proofs.Kept.{marked-is}
 use borrow.Author.Needs.{needs}
-use native.Mathlib.Omega.{arith}
-use borrow.Author.Needs.{needs}
 use Rattle.numbers.proofs.power.marked_at.Statement.{statement}
 use Rattle.numbers.proofs.power.marked_at.Tie as tie
-use Rattle.numbers.proofs.power.marked_at.Reads as reads
-use Rattle.numbers.proofs.power.marked_at.Lts as lts
-use Rattle.numbers.proofs.power.power_by.Reads as power-by-reads
-use Rattle.numbers.proofs.scan.sign_at.Reads as sign-at-reads
-use Rattle.numbers.proofs.whole.whole_of.Reads as whole-of-reads
 
 sign-at-requires : tie.Need-sign-at-requires
 sign-at-requires c κs = search needs
@@ -31,8 +25,12 @@ whole-of-requires c κs = search needs
 power-by-requires : tie.Need-power-by-requires
 power-by-requires c κs = rw (c .whole-of .ensures) (whole-below 10 3 _ (lit< tt))
 
+-- a sign or none, and digits or none
 returns : tie.Need-returns
-returns c = let a = c .before .before .before .before .before .args in c .power-by .ensures ∙ marked-is (a .w .now) (a .at) _ _ (c .before .before .before .sign-at .ensures) (c .before .whole-of .ensures)
+returns c =
+    let s = c .before .before .before in
+    let a = s .before .before .args in
+    c .power-by .ensures ∙ marked-is (a .w .now) (a .at) _ _ (s .sign-at .ensures) (c .before .whole-of .ensures)
 
 pub marked-at-spec : {M : Type 1} → statement M
 marked-at-spec =

@@ -1,15 +1,11 @@
+-- `power_at` reads all that is left of the word. Assumes nothing.
 use mathlib.Core.Path.{sym, _∙_}
 use Rattle.numbers.proofs.Places.{power-none, power-marked, power-bad}
 use borrow.Author.Needs.{needs}
-use native.Mathlib.Omega.{arith}
-use borrow.Author.Needs.{needs}
 use Rattle.numbers.proofs.power.power_at.Statement.{statement}
 use Rattle.numbers.proofs.power.power_at.Tie as tie
-use Rattle.numbers.proofs.power.power_at.Reads as reads
-use Rattle.numbers.proofs.power.power_at.Lts as lts
-use Rattle.numbers.proofs.power.is_mark.Reads as is-mark-reads
-use Rattle.numbers.proofs.power.marked_at.Reads as marked-at-reads
 
+-- nothing is left
 returns : tie.Need-returns
 returns c = let a = c .before .before .args in power-none (a .w .now) (a .at) (c .if1 .taken)
 
@@ -25,11 +21,15 @@ add-behind c = search needs
 marked-at-requires : tie.Need-marked-at-requires
 marked-at-requires c κs = search needs
 
+-- a mark, and what stands behind it
 returns-2 : tie.Need-returns-2
 returns-2 c =
-    let a = c .before .before .before .before .before .before .args in
-    c .marked-at .ensures ∙ power-marked (a .w .now) (a .at) (c .before .before .before .before .if1 .left) (sym (c .before .before .is-mark .ensures) ∙ c .before .if2 .taken)
+    let u = c .before .before .before .before in
+    let a = u .before .before .args in
+    c .marked-at .ensures
+    ∙ power-marked (a .w .now) (a .at) (u .if1 .left) (sym (c .before .before .is-mark .ensures) ∙ c .before .if2 .taken)
 
+-- another byte
 returns-3 : tie.Need-returns-3
 returns-3 c =
     let a = c .before .before .before .before .before .args in

@@ -1,14 +1,11 @@
+-- `power_by` gives a whole number its sign. Assumes nothing.
 use borrow.Author.Needs.{sfits-of}
 use mir.ValLaws.{toZ-ofZ}
 use Rattle.numbers.proofs.Kept.{below-value}
 use borrow.Author.Needs.{needs}
 use native.Mathlib.Omega.{arith}
-use borrow.Author.Needs.{needs}
 use Rattle.numbers.proofs.power.power_by.Statement.{statement}
 use Rattle.numbers.proofs.power.power_by.Tie as tie
-use Rattle.numbers.proofs.power.power_by.Reads as reads
-use Rattle.numbers.proofs.power.power_by.Lts as lts
-use Rattle.numbers.proofs.signed.with_sign32.Reads as with-sign32-reads
 
 enum-known-k : tie.Need-enum-known-k
 enum-known-k c = search needs
@@ -19,9 +16,11 @@ with-sign32-requires c κs = omega (arith, below-value _ _ _ (c .before .before 
 enum-told : tie.Need-enum-told
 enum-told c = search needs
 
+-- a number
 returns : tie.Need-returns
 returns c = rw (toZ-ofZ _ _ (sfits-of (c .with-sign32 .ok)), c .with-sign32 .ensures, c .before .before .k .given .1)
 
+-- no number
 returns-2 : tie.Need-returns-2
 returns-2 c = search needs
 

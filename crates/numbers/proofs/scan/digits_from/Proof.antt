@@ -1,15 +1,11 @@
+-- `digits_from` reads all digits from a place on. Its loop keeps the state fair, and what is left behind it as what there was. Assumes nothing.
 use Prim.Native.Nat.{_-_}
 use lib.ListN.{length}
 use Rattle.numbers.specs.Parts.{Fair}
 use Rattle.numbers.proofs.Scanning.{Runs, scan-start, scan-less, scan-past, scan-stop, scan-more}
 use borrow.Author.Needs.{needs}
-use native.Mathlib.Omega.{arith}
 use Rattle.numbers.proofs.scan.digits_from.Statement.{statement}
 use Rattle.numbers.proofs.scan.digits_from.Tie as tie
-use Rattle.numbers.proofs.scan.digits_from.Reads as reads
-use Rattle.numbers.proofs.scan.digits_from.Lts as lts
-use Rattle.numbers.proofs.digit.digit_of.Reads as digit-of-reads
-use Rattle.numbers.proofs.scan.grow.Reads as grow-reads
 
 abbrev Inv-loop : tie.InvT-loop
 Inv-loop w x₀ x = Fair w x × Runs w x₀ x
@@ -20,8 +16,12 @@ abbrev μ-loop : tie.MeasureT-loop
 loop-holds : tie.Need-loop-holds Inv-loop μ-loop
 loop-holds c = scan-start _ _ (c .before .pre)
 
+-- the word is at its end
 returns : tie.Need-returns Inv-loop μ-loop
-returns c = let a = c .before .before .before .args in let l = c .before .loop in scan-past (a .w .now) (a .from) (l .x) (l .inv .0) (l .inv .1) (c .if1 .taken)
+returns c =
+    let a = c .before .before .before .args in
+    let l = c .before .loop in
+    scan-past (a .w .now) (a .from) (l .x) (l .inv .0) (l .inv .1) (c .if1 .taken)
 
 shared-slice-read-digit-of : tie.Need-shared-slice-read-digit-of Inv-loop μ-loop
 shared-slice-read-digit-of c = search needs
@@ -29,6 +29,7 @@ shared-slice-read-digit-of c = search needs
 digit-of-requires : tie.Need-digit-of-requires Inv-loop μ-loop
 digit-of-requires c κs = search needs
 
+-- a byte that is no digit
 returns-2 : tie.Need-returns-2 Inv-loop μ-loop
 returns-2 c =
     let a = c .before .before .before .before .before .before .args in
@@ -46,9 +47,11 @@ loop-less c =
 
 loop-again : tie.Need-loop-again Inv-loop μ-loop
 loop-again c =
-    let a = c .before .before .before .before .before .before .before .args in
-    let l = c .before .before .before .before .before .loop in
-    scan-more (a .w .now) (a .from) (l .x) (l .inv .0) (l .inv .1) _ (c .before .before .before .before .if1 .left) (c .before .before .digit-of .ensures) (c .before .if2 .left) _ (c .grow .ensures)
+    let u = c .before .before .before .before in
+    let l = u .before .loop in
+    let a = u .before .before .before .args in
+    scan-more (a .w .now) (a .from) (l .x) (l .inv .0) (l .inv .1)
+    _ (u .if1 .left) (c .before .before .digit-of .ensures) (c .before .if2 .left) _ (c .grow .ensures)
 
 pub digits-from-spec : {M : Type 1} → statement M
 digits-from-spec =

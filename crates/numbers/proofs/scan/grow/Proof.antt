@@ -1,12 +1,9 @@
+-- `grow` takes one more digit. Assumes nothing.
 use borrow.Author.Tests.{ne-eqb, eq-eqb, lt-ltb, le-ltb}
 use Rattle.numbers.specs.Parts.{grown}
 use borrow.Author.Needs.{needs}
-use native.Mathlib.Omega.{arith}
-use borrow.Author.Needs.{needs}
 use Rattle.numbers.proofs.scan.grow.Statement.{statement}
 use Rattle.numbers.proofs.scan.grow.Tie as tie
-use Rattle.numbers.proofs.scan.grow.Reads as reads
-use Rattle.numbers.proofs.scan.grow.Lts as lts
 
 add-count : tie.Need-add-count
 add-count c = search needs
@@ -20,6 +17,7 @@ mul-m c = search needs
 add-m : tie.Need-add-m
 add-m c = search needs
 
+-- room in m
 returns : tie.Need-returns
 unfolding grown
 returns c = rw (lt-ltb _ _ (c .before .if1 .taken), grown)
@@ -27,10 +25,12 @@ returns c = rw (lt-ltb _ _ (c .before .if1 .taken), grown)
 add-tail : tie.Need-add-tail
 add-tail c = search needs
 
+-- no room, and a zero
 returns-2 : tie.Need-returns-2
 unfolding grown
 returns-2 c = rw (le-ltb _ _ (c .before .before .if1 .left), eq-eqb _ _ (c .before .if2 .taken), grown)
 
+-- no room, and another digit
 returns-3 : tie.Need-returns-3
 unfolding grown
 returns-3 c = rw (le-ltb _ _ (c .before .if1 .left), ne-eqb _ _ (c .if2 .left), grown)

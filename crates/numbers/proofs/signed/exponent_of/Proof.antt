@@ -1,11 +1,8 @@
+-- `exponent_of` is the sum, and nothing in it wraps. Assumes nothing.
 use Rattle.numbers.proofs.Exponent.{low-fits, exponent-fits, exponent-is}
-use borrow.Author.Needs.{needs}
-use native.Mathlib.Omega.{arith}
 use borrow.Author.Needs.{needs}
 use Rattle.numbers.proofs.signed.exponent_of.Statement.{statement}
 use Rattle.numbers.proofs.signed.exponent_of.Tie as tie
-use Rattle.numbers.proofs.signed.exponent_of.Reads as reads
-use Rattle.numbers.proofs.signed.exponent_of.Lts as lts
 
 cast-result : tie.Need-cast-result
 cast-result c = search needs
@@ -19,6 +16,7 @@ cast-result-2 c = search needs
 add-result : tie.Need-add-result
 add-result c = exponent-fits _ _ _ (c .fits .k) (c .pre .0) (c .pre .1) (c .pre .2)
 
+-- the sum
 returns : tie.Need-returns
 returns c = exponent-is _ _ _ (c .fits .k) (c .pre .0) (c .pre .1) (c .pre .2)
 

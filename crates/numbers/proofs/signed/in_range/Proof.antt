@@ -1,16 +1,15 @@
+-- `in_range` tests both bounds. Assumes nothing.
 use mir.ValLaws.{toZ-ofZ}
 use Rattle.numbers.specs.Coordinate.{inRange}
-use borrow.Author.Needs.{needs}
-use native.Mathlib.Omega.{arith}
 use Rattle.numbers.proofs.signed.in_range.Statement.{statement}
 use Rattle.numbers.proofs.signed.in_range.Tie as tie
-use Rattle.numbers.proofs.signed.in_range.Reads as reads
-use Rattle.numbers.proofs.signed.in_range.Lts as lts
 
+-- not below -400
 returns : tie.Need-returns
 unfolding inRange
 returns c = rw (toZ-ofZ _ _ (c .before .fits .e), rw (toZ-ofZ _ _ (c .before .fits .e)) at (c .if1 .taken))
 
+-- below -400
 returns-2 : tie.Need-returns-2
 unfolding inRange
 returns-2 c = rw (toZ-ofZ _ _ (c .before .fits .e), rw (toZ-ofZ _ _ (c .before .fits .e)) at (c .if1 .left))

@@ -1,14 +1,11 @@
+-- `with_sign32` gives a magnitude its sign, at 32 bits. Assumes nothing.
 use mathlib.Core.Path.{_∙_}
 use mir.Syntax.{w32}
 use mir.ValLaws.{toZ-pos}
 use Rattle.facts.proofs.Signed.{neg-fits, neg-is}
 use borrow.Author.Needs.{needs}
-use native.Mathlib.Omega.{arith}
-use borrow.Author.Needs.{needs}
 use Rattle.numbers.proofs.signed.with_sign32.Statement.{statement}
 use Rattle.numbers.proofs.signed.with_sign32.Tie as tie
-use Rattle.numbers.proofs.signed.with_sign32.Reads as reads
-use Rattle.numbers.proofs.signed.with_sign32.Lts as lts
 
 cast-result : tie.Need-cast-result
 cast-result c = search needs
@@ -16,12 +13,14 @@ cast-result c = search needs
 sub-result : tie.Need-sub-result
 sub-result c = neg-fits w32 _ (c .before .pre)
 
+-- negative
 returns : tie.Need-returns
 returns c = neg-is w32 _ (c .before .pre) ∙ rw (c .if1 .taken)
 
 cast-result-2 : tie.Need-cast-result-2
 cast-result-2 c = search needs
 
+-- not negative
 returns-2 : tie.Need-returns-2
 returns-2 c = toZ-pos w32 _ (c .before .pre) ∙ rw (c .if1 .left)
 

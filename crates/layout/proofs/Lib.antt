@@ -1,0 +1,14 @@
+pub mod Answers
+pub mod Tests
+pub mod Sums
+pub mod Bodies
+pub mod Sound
+pub mod Files
+pub mod Behind
+pub mod Complete
+pub mod Laying
+pub mod Pieces
+pub mod Exactly
+pub mod Safe
+pub mod Refusals
+pub mod Cases

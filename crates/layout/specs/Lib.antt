@@ -1,0 +1,10 @@
+pub mod Items
+pub mod Grammar
+pub mod Keeps
+pub mod Rows
+pub mod Says
+pub mod Replies
+pub mod Reading
+pub mod State
+pub mod Sections
+pub mod Read

@@ -1,0 +1,160 @@
+-- The pieces of a word, sign, whole number, power and fraction: what is read of each is what is written there. Assumes nothing.
+use Prim.Native.Nat.{ℕ, _+_, _≤_, _<_}
+use native.Mathlib.Omega.{arith}
+use mathlib.Core.Path.{_≡_, refl, sym, ap, _∙_}
+use mathlib.Core.Logic.{_⊎_, inl, inr, _↔_}
+use mathlib.Core.List.{List, [], _∷_, _++_, append-nil}
+use mathlib.Core.Bool.{Bool, true, false, _&&_, _||_}
+use borrow.Author.Tests.{ne-eqb, eqb-true, le-leb}
+use lib.Dec.{eqb}
+use lib.ListN.{length}
+use lib.IntN.{ℤ, pos}
+use Rattle.facts.proofs.Branch.{either, differ}
+use Rattle.numbers.specs.declared.whole.Whole.{Whole}
+use Rattle.numbers.specs.declared.power.Power.{Power}
+use Rattle.numbers.specs.Whole.{digitOf, Digits, digits, digitsIn, within, isEmpty, wholeBy, wholeOf}
+use Rattle.numbers.specs.Coordinate.{signOf, Signed, signed, signIn, fractionIn, isMark, powerBy, markedOf, powerOf}
+use Rattle.numbers.specs.Value.{Figures, worth, SignText, unsigned, plus, minus, PowerText, unpowered, powered}
+use Rattle.numbers.proofs.Digits.{Begins, decimal-byte, and-left, and-right, within-is, Run, digitsIn-exact, digitsIn-part}
+
+-- ---- the first byte of what follows
+abbrev pub NoSign : ℕ → Type 0
+NoSign b = (eqb b 45 ≡ false) × (eqb b 43 ≡ false)
+
+abbrev pub NoPoint : ℕ → Type 0
+NoPoint b = eqb b 46 ≡ false
+
+digit-unsigned : (b : ℕ) → digitOf b < 10 → NoSign b
+digit-unsigned b h = let d = decimal-byte b h in (ne-eqb b 45 (λ e. omega arith), ne-eqb b 43 (λ e. omega arith))
+
+pub digits-unsigned : (a r : List ℕ) → Figures 10 a → Begins NoSign r → Begins NoSign (a ++ r)
+digits-unsigned [] r f h = h
+digits-unsigned (b ∷ a) r f h = digit-unsigned b (f .0)
+
+pub power-begins : {t : List ℕ} {k : ℤ} (P : ℕ → Type 0) → P 101 → P 69 → PowerText t k → Begins P t
+power-begins P p q unpowered = tt
+power-begins P p q (powered s d (inl e) g f low high) = rw e p
+power-begins P p q (powered s d (inr e) g f low high) = rw e q
+
+-- ---- a sign
+pub signIn-exact : {s : List ℕ} {n : Bool} (r : List ℕ) → SignText s n → Begins NoSign r → signIn (s ++ r) ≡ signed n r
+unfolding signIn
+signIn-exact [] unsigned h = refl
+signIn-exact (b ∷ r) unsigned h = rw (h .0, h .1, signIn)
+signIn-exact r plus h = refl
+signIn-exact r minus h = refl
+
+pub record Signs (w : List ℕ) (g : Signed) : Type 0 where
+  pub text : List ℕ
+  pub signs : SignText text (g .negative)
+  pub parted : w ≡ text ++ g .rest
+
+pub signIn-part : (w : List ℕ) → Signs w (signIn w)
+unfolding signIn
+signIn-part [] = record { text = []; signs = unsigned; parted = refl }
+signIn-part (b ∷ w) =
+    either (Signs (b ∷ w)) (eqb b 45) (λ p. record { text = 45 ∷ []; signs = minus; parted = ap (λ c. c ∷ w) (eqb-true b 45 p) })
+    (λ _. either (Signs (b ∷ w)) (eqb b 43) (λ p. record { text = 43 ∷ []; signs = plus; parted = ap (λ c. c ∷ w) (eqb-true b 43 p) })
+    (λ _. record { text = []; signs = unsigned; parted = refl }))
+
+-- ---- a whole number, over the base
+pub wholeBy-is : (most v n : ℕ) → 1 ≤ n → n ≤ most → wholeBy most (digits v n []) ≡ Whole.Is v
+wholeBy-is most v n p q = rw (le-leb 1 n p, le-leb n most q, wholeBy)
+
+module _ (base most : ℕ) (w : List ℕ) where
+  pub wholeOf-exact : Figures base w → 1 ≤ length w → length w ≤ most → wholeOf base most w ≡ Whole.Is (worth base 0 w)
+  unfolding wholeOf
+  wholeOf-exact f low high =
+      let d = rw append-nil at (digitsIn-exact base w [] 0 0 f tt) in
+      ap (wholeBy most) d ∙ wholeBy-is most (worth base 0 w) (0 + length w) (omega arith) (omega arith)
+
+  pub record Wholly (v : ℕ) : Type 0 where
+    pub figures : Figures base w
+    pub low : 1 ≤ length w
+    pub high : length w ≤ most
+    pub value : v ≡ worth base 0 w
+
+  wholly : (d : Digits) (v : ℕ) → Run base w 0 0 d → wholeBy most d ≡ Whole.Is v → Wholly v
+  wholly d v r = either (λ x. x ≡ Whole.Is v → Wholly v) (isEmpty (d .rest) && within 1 most (d .count)) yes (λ _ e. absurd (not-is v e))
+    where
+      not-is : (v : ℕ) → Whole.Not ≡ Whole.Is v → ⊥
+      not-is v e = let z : _≡_ {A = ℕ} 0 1 = cc in omega arith
+
+      is-empty : (l : List ℕ) → isEmpty l ≡ true → l ≡ []
+      is-empty [] e = refl
+      is-empty (b ∷ l) e = differ false e refl
+
+      yes : (isEmpty (d .rest) && within 1 most (d .count)) ≡ true → Whole.Is (d .value) ≡ Whole.Is v → Wholly v
+      yes p e =
+          let q = r .parted ∙ ap (λ l. r .run ++ l) (is-empty (d .rest) (and-left (isEmpty (d .rest)) _ p)) ∙ append-nil (r .run) in
+          let c = within-is 1 most (d .count) (and-right (isEmpty (d .rest)) _ p) in
+          let z : v ≡ d .value = cc in
+          record {
+            figures = rw q (r .figures);
+            low = omega (arith, r .count, ap length q);
+            high = omega (arith, r .count, ap length q);
+            value = z ∙ r .value ∙ ap (worth base 0) (sym q);
+          }
+
+  pub wholeOf-exactly : (v : ℕ) → (wholeOf base most w ≡ Whole.Is v) ↔ Wholly v
+  unfolding wholeOf
+  wholeOf-exactly v =
+      (wholly (digitsIn base 0 0 w) v (digitsIn-part base w 0 0), λ h. wholeOf-exact (h .figures) (h .low) (h .high) ∙ ap Whole.Is (sym (h .value)))
+
+-- ---- a power
+mark-is : (b : ℕ) → (b ≡ 101) ⊎ (b ≡ 69) → isMark b ≡ true
+mark-is b (inl e) = rw e
+mark-is b (inr e) = rw e
+
+is-mark : (b : ℕ) → isMark b ≡ true → (b ≡ 101) ⊎ (b ≡ 69)
+is-mark b = marked (eqb b 101) (eqb b 69) (eqb-true b 101) (eqb-true b 69)
+  where
+    marked : (p q : Bool) → (p ≡ true → b ≡ 101) → (q ≡ true → b ≡ 69) → (p || q) ≡ true → (b ≡ 101) ⊎ (b ≡ 69)
+    marked true q f g e = inl (f refl)
+    marked false q f g e = inr (g e)
+
+pub powerOf-exact : {t : List ℕ} {k : ℤ} → PowerText t k → powerOf t ≡ Power.Is k
+unfolding powerOf markedOf
+powerOf-exact unpowered = refl
+powerOf-exact (powered {e} s d m g f low high) =
+    rw (mark-is e m, powerOf, signIn-exact d g (rw append-nil at (digits-unsigned d [] f tt)), wholeOf-exact 10 3 d f low high)
+
+record Powered (n : Bool) (x : Whole) (k : ℤ) : Type 0 where
+  pub tens : ℕ
+  pub whole : x ≡ Whole.Is tens
+  pub signs : signOf n tens ≡ k
+
+power-by : (n : Bool) (x : Whole) (k : ℤ) → powerBy n x ≡ Power.Is k → Powered n x k
+power-by n (Whole.Is v) k e = record { tens = v; whole = refl; signs = cc }
+power-by n Whole.Not k e = absurd (let z : _≡_ {A = ℕ} 0 1 = cc in omega arith)
+
+marked-part : (b : ℕ) (w : List ℕ) (k : ℤ) → isMark b ≡ true → markedOf w ≡ Power.Is k → PowerText (b ∷ w) k
+unfolding markedOf
+marked-part b w k m e =
+    let s = signIn-part w in
+    let p = power-by (signIn w .negative) (wholeOf 10 3 (signIn w .rest)) k e in
+    let h = wholeOf-exactly 10 3 (signIn w .rest) (p .tens) .0 (p .whole) in
+    let z : k ≡ signOf (signIn w .negative) (worth 10 0 (signIn w .rest)) = sym (p .signs) ∙ ap (signOf (signIn w .negative)) (h .value) in
+    rw (z, ap (λ l. b ∷ l) (s .parted)) (powered (s .text) (signIn w .rest) (is-mark b m) (s .signs) (h .figures) (h .low) (h .high))
+
+pub powerOf-part : (r : List ℕ) (k : ℤ) → powerOf r ≡ Power.Is k → PowerText r k
+unfolding powerOf
+powerOf-part [] k e = let z : k ≡ pos 0 = cc in rw z unpowered
+powerOf-part (b ∷ w) k e =
+    either (λ q. q ≡ Power.Is k → PowerText (b ∷ w) k) (isMark b) (λ m e. marked-part b w k m e)
+    (λ _ e. absurd (let z : _≡_ {A = ℕ} 0 1 = cc in omega arith)) e
+
+-- ---- digits behind a point
+pub fractionIn-none : (v : ℕ) (r : List ℕ) → Begins NoPoint r → fractionIn v r ≡ digits v 0 r
+unfolding fractionIn
+fractionIn-none v [] h = refl
+fractionIn-none v (b ∷ r) h = rw (h, fractionIn)
+
+pub data Fraction (v : ℕ) : List ℕ → Digits → Type 0 where
+  no-point : {r : List ℕ} → Fraction v r (digits v 0 r)
+  a-point : {b : ℕ} {r : List ℕ} {d : Digits} → b ≡ 46 → Run 10 r v 0 d → Fraction v (b ∷ r) d
+
+pub fractionIn-part : (v : ℕ) (r : List ℕ) → Fraction v r (fractionIn v r)
+unfolding fractionIn
+fractionIn-part v [] = no-point
+fractionIn-part v (b ∷ r) = either (Fraction v (b ∷ r)) (eqb b 46) (λ p. a-point (eqb-true b 46 p) (digitsIn-part 10 r v 0)) (λ _. no-point)
