@@ -1,13 +1,13 @@
 -- What comes behind a thing of the grammar is the end of what the thing began with. Assumes nothing.
-use Prim.Native.Nat.{ℕ, zero, suc, _≤_, _<_}
+use Prim.Native.Nat.{ℕ, _≤_, _<_}
 use native.Mathlib.Omega.{arith}
-use mathlib.Core.List.{List, [], _∷_}
+use mathlib.Core.List.{List, _∷_}
 use lib.ListN.{length}
 use Rattle.tokens.specs.Listed.{Tok, left, right, text, cut, word}
 use Rattle.numbers.specs.declared.whole.Whole.{Whole}
 use Rattle.layout.specs.Items.{Kind, Perhaps, Header, Body, Item}
-use Rattle.layout.specs.Replies.{leftsIn}
 use Rattle.layout.specs.Grammar.{Left, is-left, Right, is-right, Number, number, Hex, Coordinate, coordinate, Fifth, present, missing, Heading, heading, Rows, no-rows, a-row, Enclosed, enclosed, Element, element, Facing, facing, Mixed, mixed, BodyOf, node-body, cell-mixed, cell-same, face-mixed, face-same, Inside, closed, a-word, a-text, nested, Section, two, declares, regular, stepped}
+use Rattle.layout.specs.Replies.{leftsIn}
 
 -- us is an end of ts
 pub data Behind : List Tok → List Tok → Type 0 where
@@ -52,7 +52,8 @@ fifth-behind missing = all
 
 heading-behind : {ts us : List Tok} {h : Header} → Heading ts h us → Behind us ts
 heading-behind (heading a z f l t v r) =
-    and-on (left-behind a) (and-on (number-behind z) (and-on (number-behind f) (and-on (number-behind l) (and-on (number-behind t) (and-on (fifth-behind v) (right-behind r))))))
+    let last = and-on (number-behind t) (and-on (fifth-behind v) (right-behind r)) in
+    and-on (left-behind a) (and-on (number-behind z) (and-on (number-behind f) (and-on (number-behind l) last)))
 
 inside-behind : {d : ℕ} {ts us : List Tok} → Inside d ts us → Behind us ts
 inside-behind closed = on all

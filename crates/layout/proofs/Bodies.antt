@@ -1,7 +1,7 @@
 -- A body suits its kind and has a row for each index. Assumes nothing.
 use Prim.Native.Nat.{ℕ, suc}
 use mathlib.Core.Path.{_≡_, refl, ap}
-use mathlib.Core.List.{List, [], _∷_}
+use mathlib.Core.List.{List}
 use lib.ListN.{length, length-replicate}
 use Rattle.tokens.specs.Listed.{Tok}
 use Rattle.layout.specs.Items.{Kind, node, cell, face, Perhaps, Body, points, elements, facets}

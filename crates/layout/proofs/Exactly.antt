@@ -1,110 +1,70 @@
 -- A file is accepted exactly when it says a mesh and there is room for it, and then it is that mesh. Assumes nothing.
-use Prim.Native.Nat.{ℕ, zero, suc, _+_, _*_, _/_, _≤_, _<_, min}
+use Prim.Native.Nat.{ℕ, suc, _*_, _/_, _≤_}
 use native.Mathlib.Nat.{mul-le-mul-left, mul-div-le, min-le-left, min-le-right}
 use native.Mathlib.Omega.{arith}
 use mathlib.Core.Path.{_≡_, refl, sym, _∙_, ap}
-use mathlib.Core.Logic.{_↔_, _⊎_, inl, inr}
-use mathlib.Core.List.{List, [], _∷_, _++_, append-nil, append-assoc, List·Memᴰ, List·Memᴰ·not-nil}
-use mathlib.Core.Bool.{Bool, true, false, _&&_, not}
-use borrow.Author.Tests.{le-leb, leb-true, eq-eqb, eqb-true, not-true}
-use lib.Dec.{leb, eqb}
-use lib.IntN.{ℤ, pos}
+use mathlib.Core.Logic.{_↔_, inl, inr}
+use mathlib.Core.List.{List, [], _∷_, List·Memᴰ·not-nil}
+use mathlib.Core.Bool.{Bool, true, false}
+use borrow.Author.Tests.{not-true}
+use lib.IntN.{pos}
 use lib.ListN.{length}
-use Rattle.facts.proofs.Branch.{either, differ}
-use Rattle.facts.proofs.Decides.{and-is, eq-is, ne-is, and-join, and-split, either-of}
-use Rattle.sizes.specs.Sizes.{fileBytes}
-use Rattle.tokens.specs.Listed.{Tok, tokensOf}
-use Rattle.tokens.proofs.Text.{text-exactly}
-use Rattle.mesh.specs.declared.Zone.{Zone}
 use Rattle.mesh.specs.Shape.{places, faceWords, cellWords, nodeWords}
-use Rattle.layout.specs.declared.Refusal.{Refusal}
 use Rattle.layout.specs.declared.Reply.{Reply}
-use Rattle.layout.specs.Items.{Kind, node, cell, face, Pair, Item, dim, decl, part, other}
-use Rattle.layout.specs.Keeps.{Room, roomFor, Limit, most, Within, All, Some, SaysDim, Declares, Undeclared, partsIn, Fits, PartFits, Whole, Laid}
-use Rattle.layout.specs.Rows.{Piece, Table, Holding, piecesOf, nodeTable, mantissaTable, exponentTable, faceTable, cellTable, zonesOf, zonePieces, noZone, Lent, roomOf, Holds}
+use Rattle.layout.specs.Items.{Kind, node, cell, face, Item, dim, decl, part, other}
+use Rattle.layout.specs.Keeps.{roomFor, Within, Some, Declares, partsIn}
+use Rattle.layout.specs.Rows.{Table, Holding, piecesOf, mantissaTable, exponentTable, faceTable, cellTable, zonesOf, zonePieces, noZone, Lent, roomOf, Holds}
 use Rattle.layout.specs.Says.{LaidText, Mesh, CellsAre, Says}
-use Rattle.layout.specs.State.{Per, State, start, per, after, afterAll}
-use Rattle.layout.specs.Read.{Answer, accepted, refused, tokensAnswer, answerOf, lay, filled, Result, resultOf, readOf}
-use Rattle.layout.proofs.Sums.{Sums, Seen, none-seen, one-more, parts-append}
-use Rattle.layout.proofs.Files.{Each, parted-each, total-is, declared-is, sound}
-use Rattle.layout.proofs.Complete.{complete}
-use Rattle.layout.proofs.Laying.{Good, lay-holds, holding-one}
-use Rattle.layout.proofs.Pieces.{Formed, node-formed, face-formed, cell-formed, file-sized, pieces-good}
-
--- ---- the items
-not-accepted : {A : Type 0} {w : Refusal} {k o : ℕ} {x : State} {is : List Item} → refused w k o ≡ accepted x is → A
-not-accepted e = absurd (let z : _≡_ {A = ℕ} 0 1 = cc in omega arith)
-
-module _ (room : Room) (s : List ℕ) where
-  laid-of : (x : State) (is : List Item) → answerOf room s ≡ accepted x is → LaidText room s is
-  unfolding answerOf
-  laid-of x is =
-      either (λ a. a ≡ accepted x is → LaidText room s is) (leb (length s) fileBytes)
-      (λ p e. record { short = leb-true _ _ p; tokens = tokensOf s; text = text-exactly s (tokensOf s) .0 refl; laid = sound (length s) room (tokensOf s) x is e })
-      (λ _ e. not-accepted e)
-
-  answer-of : (is : List Item) → LaidText room s is → answerOf room s ≡ accepted (afterAll start is) is
-  unfolding answerOf
-  answer-of is l =
-      let q = text-exactly s (l .tokens) .1 (l .text) in
-      rw (le-leb (length s) fileBytes (l .short), answerOf) (ap (tokensAnswer (length s) room) q ∙ complete (length s) room (l .tokens) is (l .laid))
-
-  -- reading accepts these items exactly when the file is laid out with them
-  pub answerOf-exactly : (is : List Item) → (answerOf room s ≡ accepted (afterAll start is) is) ↔ LaidText room s is
-  answerOf-exactly is = (laid-of (afterAll start is) is, answer-of is)
-
-  stated : (x : State) (is : List Item) → answerOf room s ≡ accepted x is → x ≡ afterAll start is
-  stated x is e = let c = answer-of is (laid-of x is e) in cc
-
--- what the state holds at the end is what the items say
-seen-all : (room : Room) (before is : List Item) (x : State) → Seen before x → Each room before is → Seen (before ++ is) (afterAll x is)
-seen-all room before [] x s e = rw (append-nil before) s
-seen-all room before (i ∷ is) x s e =
-    rw (append-assoc before (i ∷ []) is) at (seen-all room (before ++ (i ∷ [])) is (after x i) (one-more before x s room i (e .0)) (e .1))
+use Rattle.layout.specs.State.{State, start, per, afterAll}
+use Rattle.layout.specs.Read.{Answer, accepted, refused, answerOf, lay, filled, Result, resultOf, readOf}
+use Rattle.layout.proofs.Dims.{dim-is}
+use Rattle.layout.proofs.Sums.{Seen, total-is, declared-is}
+use Rattle.layout.proofs.Each.{parted-each, laid-seen}
+use Rattle.layout.proofs.Formed.{Formed, node-formed, face-formed, cell-formed}
+use Rattle.layout.proofs.Laying.{lay-holds, holding-one}
+use Rattle.layout.proofs.Pieces.{file-sized, pieces-good}
+use Rattle.layout.proofs.Room.{HasRoom, laid-has-room}
+use Rattle.layout.proofs.Accepts.{laid-of, answer-of, stated}
 
 -- ---- room
 div-room : (w l n : ℕ) → n ≤ l / w → w * n ≤ l
 div-room w l n h = omega (arith, mul-le-mul-left {m = n} {n = l / w} w h, mul-div-le l w)
 
-parts-fit : (m : ℕ) (room : Room) → room .zones ≡ most m → (before is : List Item) → partsIn before ≤ m → Each room before is → partsIn (before ++ is) ≤ m
-parts-fit m room q before [] l e = rw (append-nil before) l
-parts-fit m room q before (i ∷ is) l e =
-    rw (append-assoc before (i ∷ []) is) at (parts-fit m room q (before ++ (i ∷ [])) is (one i (e .0)) (e .1))
-  where
-    one : (i : Item) → Fits room before i → partsIn (before ++ (i ∷ [])) ≤ m
-    one (dim n) f = omega (arith, parts-append before (dim n ∷ []))
-    one (decl k h) f = omega (arith, parts-append before (decl k h ∷ []))
-    one (part k h b) f = let r : suc (partsIn before) ≤ m = rw q at (f .roomy) in omega (arith, parts-append before (part k h b ∷ []))
-    one other f = omega (arith, parts-append before (other ∷ []))
-
-zones-length : (is : List Item) → length (zonesOf is) ≡ partsIn is
+pub zones-length : (is : List Item) → length (zonesOf is) ≡ partsIn is
 zones-length [] = refl
 zones-length (dim n ∷ is) = zones-length is
 zones-length (decl k h ∷ is) = zones-length is
 zones-length (part k h b ∷ is) = ap suc (zones-length is)
 zones-length (other ∷ is) = zones-length is
 
+-- the reader's result when it accepts a mesh
+abbrev pub acceptedAs : Mesh → Result
+acceptedAs m = record { reply = Reply.Accepted (m .dimension) (m .nodes) (m .faces) (m .cells) (m .zones); held = m .held }
+
 module _ (s : List ℕ) (old : Lent) where
   module _ (is : List Item) (l : LaidText (roomOf old) s is) where
-    each : Each (roomOf old) [] is
-    each = parted-each (roomOf old) [] is (l .laid .fits)
+    has-room : HasRoom (roomOf old) is
+    has-room = laid-has-room (roomOf old) (l .laid)
 
     abbrev end : State
     end = afterAll start is
 
     seen : Seen is end
-    seen = seen-all (roomOf old) [] is start none-seen each
+    seen = laid-seen (roomOf old) (l .laid)
 
     -- ---- tables
-    table-holds : {A : Type 0} (d : A) (t : Table A) → Formed t → (rows : List A) → ((n : ℕ) → Within (roomFor (roomOf old) (t .kind)) n → t .width * n ≤ length rows)
+    table-holds : {A : Type 0} (d : A) (t : Table A) → Formed t → (rows : List A)
+        → ((n : ℕ) → Within (roomFor (roomOf old) (t .kind)) n → t .width * n ≤ length rows)
         → Holding d (piecesOf t is) rows (lay (piecesOf t is) rows)
     table-holds d t f rows r =
-        lay-holds d (piecesOf t is) rows (pieces-good d t f (length rows) (roomOf old) r [] is (λ n y. absurd y) each (file-sized (l .laid .file)))
+        let e = parted-each (roomOf old) [] is (l .laid .fits) in
+        let g = pieces-good d t f (length rows) (roomOf old) is (λ n y. r n (has-room .tables (t .kind) n y)) [] is refl e (file-sized (l .laid .file)) in
+        lay-holds d (piecesOf t is) rows g
 
     list-holds : Holding noZone (zonePieces is) (old .zones) (lay (zonePieces is) (old .zones))
     list-holds =
         lay-holds noZone (zonePieces is) (old .zones)
-        (omega (arith, zones-length is, parts-fit (length (old .zones)) (roomOf old) refl [] is (omega arith) each), λ q m. absurd (List·Memᴰ·not-nil m), tt)
+        (omega (arith, zones-length is, has-room .list), λ q m. absurd (List·Memᴰ·not-nil m), tt)
 
     node-room : (n : ℕ) → Within (roomFor (roomOf old) node) n → (nodeWords * n ≤ length (old .mantissas)) × (nodeWords * n ≤ length (old .exponents))
     node-room n h =
@@ -123,9 +83,6 @@ module _ (s : List ℕ) (old : Lent) where
         }
 
     -- ---- numbers
-    dim-one : (n : ℕ) → Some (SaysDim n) is → (end .dimension ≡ n) × (n ≡ 0 → ⊥)
-    dim-one n h = let a = and-is (ne-is n 0) (eq-is (end .dimension) n) .0 (seen .dims .known n .1 h) in (a .1, a .0)
-
     total-one : (k : Kind) (n : ℕ) → Some (Declares k n) is → per end k .total ≡ n
     total-one k n h = total-is is k (per end k) (seen .kinds k) n h .1
 
@@ -142,7 +99,14 @@ module _ (s : List ℕ) (old : Lent) where
 
     abbrev mesh : Mesh
     mesh =
-        record { dimension = end .dimension; nodes = end .nodes .total; faces = end .faces .total; cells = end .cells .total; zones = end .zones; held = filled is old }
+        record {
+          dimension = end .dimension;
+          nodes = end .nodes .total;
+          faces = end .faces .total;
+          cells = end .cells .total;
+          zones = end .zones;
+          held = filled is old;
+        }
 
     says : Says s old mesh
     says =
@@ -150,7 +114,7 @@ module _ (s : List ℕ) (old : Lent) where
         record {
           items = is;
           laid = l;
-          dimension = rw (dim-one (w .dimension) (w .known) .0) (w .known);
+          dimension = rw (dim-is (seen .dims) (w .dimension) (w .known) .0) (w .known);
           nodes = rw (total-one node (w .nodes) (w .nodes-declared)) (w .nodes-declared);
           faces = rw (total-one face (w .faces) (w .faces-declared)) (w .faces-declared);
           cells = cells-are;
@@ -171,17 +135,13 @@ module _ (s : List ℕ) (old : Lent) where
   says-is m p =
       let is = p .items in
       let l = p .laid in
-      let d = dim-one is l (m .dimension) (p .dimension) .0 in
+      let d = dim-is (seen is l .dims) (m .dimension) (p .dimension) .0 in
       let n = total-one is l node (m .nodes) (p .nodes) in
       let f = total-one is l face (m .faces) (p .faces) in
       let c = cells-one is l (m .cells) (p .cells) in
       let z = p .zones ∙ sym (seen is l .zones) in
       let h = held-one is (m .held) (filled is old) (p .held) (tables-hold is l) in
       λ i. record { dimension = sym d i; nodes = sym n i; faces = sym f i; cells = sym c i; zones = z i; held = h i }
-
-  -- the reader's result when it accepts a mesh
-  abbrev pub acceptedAs : Mesh → Result
-  acceptedAs m = record { reply = Reply.Accepted (m .dimension) (m .nodes) (m .faces) (m .cells) (m .zones); held = m .held }
 
   accepted-one : (m n : Mesh) → acceptedAs m ≡ acceptedAs n → m ≡ n
   accepted-one m n e =
@@ -194,7 +154,8 @@ module _ (s : List ℕ) (old : Lent) where
       let h = ap (λ (x : Result). x .held) e in
       λ i. record { dimension = d i; nodes = a i; faces = f i; cells = c i; zones = z i; held = h i }
 
-  mesh-of : (x : State) (is : List Item) (m : Mesh) → resultOf (accepted x is) old ≡ acceptedAs m → x ≡ afterAll start is → (l : LaidText (roomOf old) s is) → mesh is l ≡ m
+  mesh-of : (x : State) (is : List Item) (m : Mesh) → resultOf (accepted x is) old ≡ acceptedAs m → x ≡ afterAll start is
+      → (l : LaidText (roomOf old) s is) → mesh is l ≡ m
   mesh-of x is m e q l = accepted-one (mesh is l) m (ap (λ y. resultOf (accepted y is) old) (sym q) ∙ e)
 
   accepted-says : (m : Mesh) (a : Answer) → answerOf (roomOf old) s ≡ a → resultOf a old ≡ acceptedAs m → Says s old m
@@ -206,7 +167,10 @@ module _ (s : List ℕ) (old : Lent) where
   -- THE THEOREM
   pub readOf-exactly : (m : Mesh) → (readOf s old ≡ acceptedAs m) ↔ Says s old m
   unfolding readOf
-  readOf-exactly m = (λ e. accepted-says m (answerOf (roomOf old) s) refl e, λ p. rw (says-is m p) (ap (λ a. resultOf a old) (answer-of (roomOf old) s (p .items) (p .laid))))
+  readOf-exactly m = (
+    λ e. accepted-says m (answerOf (roomOf old) s) refl e,
+    λ p. rw (says-is m p) (ap (λ a. resultOf a old) (answer-of (roomOf old) s (p .items) (p .laid))),
+  )
 
   -- a file says one mesh at most
   pub one-mesh : (m n : Mesh) → Says s old m → Says s old n → m ≡ n

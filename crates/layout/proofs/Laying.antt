@@ -41,7 +41,8 @@ module _ {A : Type 0} (d : A) where
   away p q j (inr h) l = inr (omega arith)
 
   first-there : (p : Piece A) (ps : List (Piece A)) (old new : List A) → p .at + length (p .words) ≤ length old → ((r : Piece A) → List·Memᴰ r ps → Clear p r)
-      → Holding d ps (sets old (p .at) (p .words)) new → (q : Piece A) → q ≡ p → (j : ℕ) → j < length (q .words) → getD new (q .at + j) d ≡ getD (q .words) j d
+      → Holding d ps (sets old (p .at) (p .words)) new → (q : Piece A) → q ≡ p → (j : ℕ) → j < length (q .words)
+      → getD new (q .at + j) d ≡ getD (q .words) j d
   first-there p ps old new f c h q z j l =
       let m : j < length (p .words) = rw z at l in
       rw z (h .stays (p .at + j) (λ r n. away p r j (c r n) m) ∙ sets-in old (p .at) (p .words) j f m)
@@ -63,26 +64,28 @@ module _ {A : Type 0} (d : A) where
   In : ℕ → List (Piece A) → Type 0
   In k ps = (p : Piece A) × List·Memᴰ p ps × (p .at ≤ k) × (k < p .at + length (p .words))
 
-  find : (k : ℕ) (ps : List (Piece A)) → In k ps ⊎ ((p : Piece A) → List·Memᴰ p ps → Away k p)
-  unfolding In
+  Found : ℕ → List (Piece A) → Type 0
+  Found k ps = In k ps ⊎ ((p : Piece A) → List·Memᴰ p ps → Away k p)
+
+  find : (k : ℕ) (ps : List (Piece A)) → Found k ps
+  unfolding In Found
   find k [] = inr λ p m. absurd (List·Memᴰ·not-nil m)
   find k (p ∷ ps) = on (ltb k (p .at)) refl (ltb k (p .at + length (p .words))) refl (find k ps)
     where
-      out : Away k p → In k ps ⊎ ((p : Piece A) → List·Memᴰ p ps → Away k p) → In k (p ∷ ps) ⊎ ((q : Piece A) → List·Memᴰ q (p ∷ ps) → Away k q)
+      out : Away k p → Found k ps → Found k (p ∷ ps)
       out w (inl i) = inl (i .0, List·Memᴰ·tail (i .1), i .2, i .3)
       out w (inr f) = inr λ q m. either-of (List·Memᴰ·cases-cons m) (λ z. rw z w) (λ n. f q n)
 
-      on : (a : Bool) → ltb k (p .at) ≡ a → (b : Bool) → ltb k (p .at + length (p .words)) ≡ b → In k ps ⊎ ((p : Piece A) → List·Memᴰ p ps → Away k p)
-          → In k (p ∷ ps) ⊎ ((q : Piece A) → List·Memᴰ q (p ∷ ps) → Away k q)
+      on : (a : Bool) → ltb k (p .at) ≡ a → (b : Bool) → ltb k (p .at + length (p .words)) ≡ b → Found k ps → Found k (p ∷ ps)
       on true e b f r = out (inl (ltb-true _ _ e)) r
       on false e true f r = inl (p, List·Memᴰ·head refl, ltb-false _ _ e, ltb-true _ _ f)
       on false e false f r = out (inr (ltb-false _ _ f)) r
 
   pub holding-one : (ps : List (Piece A)) (old a b : List A) → Holding d ps old a → Holding d ps old b → a ≡ b
-  unfolding In
+  unfolding In Found
   holding-one ps old a b h g = ext-getD d a b (h .size ∙ sym (g .size)) λ k l. at k (find k ps)
     where
-      at : (k : ℕ) → In k ps ⊎ ((p : Piece A) → List·Memᴰ p ps → Away k p) → getD a k d ≡ getD b k d
+      at : (k : ℕ) → Found k ps → getD a k d ≡ getD b k d
       at k (inr f) = h .stays k f ∙ sym (g .stays k f)
       at k (inl i) =
           let z : i .0 .at + (k - i .0 .at) ≡ k = omega (arith, i .2) in

@@ -1,7 +1,8 @@
 -- A refusal has one of the paper's numbers, points into the file, and changes nothing. Assumes nothing.
-use Prim.Native.Nat.{ℕ, zero, suc, _+_, _≤_, _<_}
+use Prim.Native.Nat.{ℕ, zero, suc, _+_, _≤_}
 use native.Mathlib.Omega.{arith}
-use mathlib.Core.Path.{_≡_, refl, sym, _∙_, ap}
+use native.Mathlib.Nat.{le-refl}
+use mathlib.Core.Path.{_≡_, refl}
 use mathlib.Core.List.{List, [], _∷_, _++_}
 use mathlib.Core.Bool.{Bool, true, false, _&&_, not}
 use lib.Dec.{leb, eqb}
@@ -13,19 +14,18 @@ use Rattle.tokens.proofs.Text.{text-exactly}
 use Rattle.layout.specs.declared.Refusal.{Refusal}
 use Rattle.layout.specs.declared.Reply.{Reply}
 use Rattle.layout.specs.Items.{Item}
-use Rattle.layout.specs.Grammar.{Section}
-use Rattle.layout.specs.Keeps.{Room, Fits}
-use Rattle.layout.specs.Replies.{numberOf, leftsIn, Points}
+use Rattle.layout.specs.Keeps.{Room}
 use Rattle.layout.specs.Rows.{Lent, roomOf}
-use Rattle.layout.specs.Reading.{Got, got, bad}
+use Rattle.layout.specs.Replies.{numberOf, leftsIn, Points}
+use Rattle.layout.specs.Reading.{Got}
 use Rattle.layout.specs.State.{State, start, after}
-use Rattle.layout.specs.Sections.{sectionOf}
-use Rattle.layout.specs.Read.{Answer, accepted, refused, tiledPer, ending, onward, behind, endOf, fileOf, tokensAnswer, answerOf, Result, resultOf, readOf}
+use Rattle.layout.specs.Read.{Answer, accepted, refused, tiledPer, ending, onward, behind, endOf, fileOf, answerOf, resultOf, readOf}
 use Rattle.layout.proofs.Answers.{Held, held, none}
 use Rattle.layout.proofs.Sums.{Seen, none-seen, one-more}
-use Rattle.layout.proofs.Sound.{section-holds}
+use Rattle.layout.proofs.SoundSections.{section-holds}
 use Rattle.layout.proofs.Behind.{section-behind, behind-lefts}
-use Rattle.layout.proofs.Safe.{AllIn, no-more, one-in, text-in, Safe, safe, points, section-safe}
+use Rattle.layout.proofs.SafeWords.{AllIn, one-in, text-in, Safe, safe, points}
+use Rattle.layout.proofs.Safe.{section-safe}
 
 pub numberOf-within : (w : Refusal) → (1 ≤ numberOf w) × (numberOf w ≤ 14)
 numberOf-within Refusal.TooLong = omega arith
@@ -49,14 +49,11 @@ data Placed (m n : ℕ) : Answer → Type 0 where
   placed : {w : Refusal} {k o : ℕ} → k ≤ m → o ≤ n → Placed m n (refused w k o)
 
 module _ (size m : ℕ) (room : Room) where
-  at-end : size ≤ size
-  at-end = omega arith
-
   ending-placed : (a b c : Bool) (x : State) (k : ℕ) → k ≤ m → Placed m size (ending a b c (accepted x []) k size)
   ending-placed true true true x k l = all-read
-  ending-placed true true false x k l = placed l at-end
-  ending-placed true false c x k l = placed l at-end
-  ending-placed false b c x k l = placed l at-end
+  ending-placed true true false x k l = placed l (le-refl size)
+  ending-placed true false c x k l = placed l (le-refl size)
+  ending-placed false b c x k l = placed l (le-refl size)
 
   end-placed : (x : State) (k : ℕ) → k ≤ m → Placed m size (endOf size x k)
   unfolding endOf
@@ -73,14 +70,16 @@ module _ (size m : ℕ) (room : Room) where
   onward-placed l (held {a} {us} p) (safe q i) h = h a us p i
   onward-placed l none (points o) h = placed l o
 
-  file-placed : (n : ℕ) (before : List Item) (x : State) → Seen before x → (k : ℕ) (ts : List Tok) → AllIn size ts → k + leftsIn ts ≤ m → Placed m size (fileOf size room n x k ts)
+  file-placed : (n : ℕ) (before : List Item) (x : State) → Seen before x → (k : ℕ) (ts : List Tok) → AllIn size ts → k + leftsIn ts ≤ m
+      → Placed m size (fileOf size room n x k ts)
   unfolding fileOf
-  file-placed zero before x s k ts i l = let h : k ≤ m = omega arith in placed h at-end
+  file-placed zero before x s k ts i l = let h : k ≤ m = omega arith in placed h (le-refl size)
   file-placed (suc n) before x s k [] i l = end-placed x k (omega arith)
   file-placed (suc n) before x s k (left o ∷ ts) (one-in p i) l =
       let h : suc k ≤ m = omega arith in
       onward-placed h (section-holds size before x s room ts) (section-safe size room x ts i) λ a us g j.
-      behind-placed a (file-placed n (before ++ (a ∷ [])) (after x a) (one-more before x s room a (g .1)) (suc k) us j (omega (arith, behind-lefts (section-behind (g .0)))))
+      behind-placed a (file-placed n (before ++ (a ∷ [])) (after x a) (one-more before x s room a (g .1)) (suc k) us j
+      (omega (arith, behind-lefts (section-behind (g .0)))))
   file-placed (suc n) before x s k (right o ∷ ts) (one-in p i) l = let h : k ≤ m = omega arith in placed h p
   file-placed (suc n) before x s k (text o ∷ ts) (one-in p i) l = let h : k ≤ m = omega arith in placed h p
   file-placed (suc n) before x s k (cut o ∷ ts) (one-in p i) l = let h : k ≤ m = omega arith in placed h p
@@ -95,7 +94,8 @@ answer-placed room s =
     (λ _. let a : 0 ≤ leftsIn (tokensOf s) = omega arith in let b : 0 ≤ length s = omega arith in placed a b)
 
 module _ (s : List ℕ) (old : Lent) (w : Refusal) (k o : ℕ) where
-  by-answer : {a : Answer} → Placed (leftsIn (tokensOf s)) (length s) a → resultOf a old .reply ≡ Reply.Refused w k o → Points s w k o × (resultOf a old .held ≡ old)
+  by-answer : {a : Answer} → Placed (leftsIn (tokensOf s)) (length s) a → resultOf a old .reply ≡ Reply.Refused w k o
+      → Points s w k o × (resultOf a old .held ≡ old)
   by-answer all-read e = absurd (let z : _≡_ {A = ℕ} 0 1 = cc in omega arith)
   by-answer (placed {k = j} {o = q} l h) e =
       let a : j ≡ k = cc in

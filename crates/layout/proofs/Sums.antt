@@ -1,59 +1,20 @@
 -- What reading keeps of the sections so far decides what the layout asks of them; one item more keeps it so. Assumes nothing.
-use Prim.Native.Nat.{ℕ, zero, suc, _+_, _≤_, _<_}
+use Prim.Native.Nat.{ℕ, _≤_, _<_}
 use native.Mathlib.Omega.{arith}
-use mathlib.Core.Path.{_≡_, refl, sym, _∙_, ap}
-use mathlib.Core.Logic.{_⊎_, inl, inr, _↔_}
+use mathlib.Core.Path.{_≡_, refl, sym, _∙_}
+use mathlib.Core.Logic.{_⊎_, inl}
 use mathlib.Core.List.{List, [], _∷_, _++_}
-use mathlib.Core.Bool.{Bool, true, false, _&&_, _||_, not, false≢true}
+use mathlib.Core.Bool.{Bool, true, false, _&&_, not, false≢true}
 use borrow.Author.Tests.{eqb-true, eq-eqb, not-true}
 use lib.Dec.{eqb}
 use Rattle.facts.proofs.Branch.{differ}
-use Rattle.facts.proofs.Decides.{Decides, yes-is, no-is, by, lt-is, le-is, eq-is, ne-is, and-is, or-is, and-split, and-join, or-right, either-of}
-use Rattle.layout.specs.Items.{Kind, node, cell, face, Perhaps, absent, given, Header, Body, Item, dim, decl, part, other, dimWord, saysDim}
-use Rattle.layout.specs.Keeps.{Room, All, Some, SaysDim, SameDim, Agrees, DimFits, Declares, Undeclared, Apart, Covers, partsIn, DeclFits, PartFits, Fits}
+use Rattle.facts.proofs.Decides.{Decides, yes-is, no-is, by, lt-is, le-is, and-is, or-is, and-split, and-join, either-of}
+use Rattle.layout.specs.Items.{Kind, node, cell, face, absent, given, Header, Body, Item, dim, decl, part, other, dimWord}
+use Rattle.layout.specs.Keeps.{Room, All, Some, Declares, Undeclared, Apart, Covers, partsIn, Fits}
 use Rattle.layout.specs.Rows.{sameKind}
-use Rattle.layout.specs.State.{Span, Per, State, unseen, start, per, put, dimAfter, spanned, declaredAs, after, every, some-of, clear, covers}
-
--- ---- one item more
-pub all-more : (P : Item → Type 0) (i : Item) (is : List Item) → (P i × All P is) ↔ All P (is ++ (i ∷ []))
-all-more P i [] = (λ h. h, λ h. h)
-all-more P i (x ∷ is) = let r = all-more P i is in (λ h. (h .1 .0, r .0 (h .0, h .1 .1)), λ h. let k = r .1 (h .1) in (k .0, (h .0, k .1)))
-
-pub some-more : (P : Item → Type 0) (i : Item) (is : List Item) → (P i ⊎ Some P is) ↔ Some P (is ++ (i ∷ []))
-some-more P i [] = (λ h. h, λ h. h)
-some-more P i (x ∷ is) =
-    let r = some-more P i is in (
-      λ h. either-of h (λ p. inr (r .0 (inl p))) (λ s. either-of s (λ p. inl p) (λ s. inr (r .0 (inr s)))),
-      λ h. either-of h (λ p. inr (inl p)) (λ s. either-of (r .1 s) (λ p. inl p) (λ s. inr (inr s))),
-    )
-
-module _ (before : List Item) (P : Item → Type 0) {b : Bool} (i : Item) where
-  -- an item that says nothing of it
-  kept : P i → Decides b (All P before) → Decides b (All P (before ++ (i ∷ [])))
-  kept p d = by (all-more P i before) (λ q. (p, d .0 q), λ h. d .1 (h .1))
-
-  none : (P i → ⊥) → Decides b (Some P before) → Decides b (Some P (before ++ (i ∷ [])))
-  none n d = by (some-more P i before) (λ q. inr (d .0 q), λ h. either-of h (λ p. absurd (n p)) (d .1))
-
--- ---- kinds
-pub same-true : (j k : Kind) → sameKind j k ≡ true → j ≡ k
-same-true node node e = refl
-same-true node cell e = absurd (false≢true e)
-same-true node face e = absurd (false≢true e)
-same-true cell node e = absurd (false≢true e)
-same-true cell cell e = refl
-same-true cell face e = absurd (false≢true e)
-same-true face node e = absurd (false≢true e)
-same-true face cell e = absurd (false≢true e)
-same-true face face e = refl
-
-pub same-self : (j : Kind) → sameKind j j ≡ true
-same-self node = refl
-same-self cell = refl
-same-self face = refl
-
-pub kinds-differ : {j k : Kind} → sameKind j k ≡ false → j ≡ k → ⊥
-kinds-differ {j} {k} e q = false≢true (sym e ∙ rw q (same-self k))
+use Rattle.layout.specs.State.{Per, State, unseen, start, per, put, spanned, declaredAs, after, every, some-of, clear, covers}
+use Rattle.layout.proofs.Lists.{all-more, some-more, kept, none, same-true, kinds-differ, parts-append}
+use Rattle.layout.proofs.Dims.{Dims, none-dims, more-dims}
 
 module _ (x : State) (p : Per) (d z : ℕ) where
   put-same : (k : Kind) → per (put x k p d z) k ≡ p
@@ -96,7 +57,8 @@ none-sums k = record { free = yes-is; total = λ t. no-is; apart = λ f l. yes-i
 
 module _ (before : List Item) (k : Kind) (p : Per) (s : Sums before k p) where
   -- an item of another kind, or of none
-  other-sums : (i : Item) → Undeclared k i → ((t : ℕ) → Declares k t i → ⊥) → ((f l : ℕ) → Apart k f l i) → ((n : ℕ) → Covers k n i → ⊥) → Sums (before ++ (i ∷ [])) k p
+  other-sums : (i : Item) → Undeclared k i → ((t : ℕ) → Declares k t i → ⊥) → ((f l : ℕ) → Apart k f l i) → ((n : ℕ) → Covers k n i → ⊥)
+      → Sums (before ++ (i ∷ [])) k p
   other-sums i a b c d =
       record {
         free = kept before _ i a (s .free);
@@ -140,53 +102,12 @@ module _ (before : List Item) (k : Kind) (p : Per) (s : Sums before k p) where
       covers-here : (n : ℕ) → Decides (covers n (record { first = h .first; last = h .last })) ((k ≡ k) × (h .first ≤ n) × (n ≤ h .last))
       covers-here n = let d = and-is (le-is (h .first) n) (le-is n (h .last)) in (λ e. let y = d .0 e in (refl, y .0, y .1), λ y. d .1 (y .1, y .2))
 
--- ---- the dimension
-pub record Dims (before : List Item) (d : ℕ) : Type 0 where
-  pub same : (n : ℕ) → 0 < n → Decides (eqb d 0 || eqb d n) (All (SameDim n) before)
-  pub known : (n : ℕ) → Decides (not (eqb n 0) && eqb d n) (Some (SaysDim n) before)
+module _ (is : List Item) (k : Kind) (p : Per) (s : Sums is k p) where
+  pub total-is : (t : ℕ) → Some (Declares k t) is → (p .declared ≡ true) × (p .total ≡ t)
+  total-is t d = let a = and-split (p .declared) (eqb (p .total) t) (s .total t .1 d) in (a .0, eqb-true _ _ (a .1))
 
-none-dims : Dims [] 0
-none-dims = record { same = λ n p. yes-is; known = λ n. never n }
-  where
-    never : (n : ℕ) → Decides (not (eqb n 0) && eqb 0 n) ⊥
-    never n = (λ q. let z = and-is (ne-is n 0) (eq-is 0 n) .0 q in z .0 (sym (z .1)), λ p. absurd p)
-
-given-is : {m n : ℕ} → given m ≡ given n → m ≡ n
-given-is e = cc
-
-given-not : {A : Type 0} {n : ℕ} → absent ≡ given n → A
-given-not e = absurd (let z : _≡_ {A = ℕ} 0 1 = cc in omega arith)
-
-module _ (before : List Item) (d : ℕ) (s : Dims before d) (i : Item) where
-  more-dims : (v : Perhaps) → saysDim i ≡ v → DimFits before v → Dims (before ++ (i ∷ [])) (dimAfter d v)
-  more-dims absent e f =
-      record {
-        same = λ n p. kept before (SameDim n) i (λ m q. given-not (sym e ∙ q)) (s .same n p);
-        known = λ n. none before (SaysDim n) i (λ q. given-not (sym e ∙ q)) (s .known n);
-      }
-  more-dims (given m) e f =
-      record {
-        same = λ n p. by (all-more (SameDim n) i before) (
-          λ q. let z = agreed n q in (λ u y. sym (given-is (sym e ∙ y)) ∙ z, rw z at (f .same)),
-          λ y. or-right (eqb m 0) (eq-eqb m n (y .0 m e)),
-        );
-        known = λ n. by (some-more (SaysDim n) i before) (
-          λ q. inl (e ∙ ap given (eqb-true m n (and-split (not (eqb n 0)) (eqb m n) q .1))),
-          λ y. let z = either-of y (λ a. given-is (sym e ∙ a)) (λ a. sym (dims-same before (f .same) a)) in
-              and-join (ne-is n 0 .1 (λ b. positive (z ∙ b))) (eq-eqb m n z),
-        );
-      }
-    where
-      positive : m ≡ 0 → ⊥
-      positive z = either-of (f .listed) (λ q. omega arith) (λ q. omega arith)
-
-      agreed : (n : ℕ) → (eqb m 0 || eqb m n) ≡ true → m ≡ n
-      agreed n q = either-of (or-is (eq-is m 0) (eq-is m n) .0 q) (λ z. absurd (positive z)) (λ z. z)
-
-      dims-same : {n : ℕ} (is : List Item) → All (SameDim m) is → Some (SaysDim n) is → n ≡ m
-      dims-same [] a y = absurd y
-      dims-same {n} (j ∷ is) a (inl y) = a .0 n y
-      dims-same (j ∷ is) a (inr y) = dims-same is (a .1) y
+  pub declared-is : p .declared ≡ true → Some (Declares k (p .total)) is
+  declared-is e = s .total (p .total) .0 (and-join e (eq-eqb (p .total) (p .total) refl))
 
 -- ---- of all
 pub record Seen (before : List Item) (x : State) : Type 0 where
@@ -202,18 +123,13 @@ none-seen = record { kinds = sums; dims = none-dims; zones = refl }
     sums cell = none-sums cell
     sums face = none-sums face
 
-pub parts-append : (is js : List Item) → partsIn (is ++ js) ≡ partsIn is + partsIn js
-parts-append [] js = omega arith
-parts-append (dim n ∷ is) js = parts-append is js
-parts-append (decl k h ∷ is) js = parts-append is js
-parts-append (part k h b ∷ is) js = omega (arith, parts-append is js)
-parts-append (other ∷ is) js = parts-append is js
-
 module _ (before : List Item) (x : State) (s : Seen before x) where
-  decl-at : (j k : Kind) (h : Header) → All (Undeclared j) before → (b : Bool) → sameKind j k ≡ b → Sums (before ++ (decl j h ∷ [])) k (per (after x (decl j h)) k)
+  decl-at : (j k : Kind) (h : Header) → All (Undeclared j) before → (b : Bool) → sameKind j k ≡ b
+      → Sums (before ++ (decl j h ∷ [])) k (per (after x (decl j h)) k)
   decl-at j k h f true e = rw (← same-true j k e, put-same) (decl-sums before j (per x j) (s .kinds j) h f)
   decl-at j k h f false e =
-      rw (put-other x _ _ _ j k e) (other-sums before k (per x k) (s .kinds k) (decl j h) (kinds-differ e) (λ u d. kinds-differ e (d .0)) (λ a b. tt) (λ n d. d))
+      rw (put-other x _ _ _ j k e)
+      (other-sums before k (per x k) (s .kinds k) (decl j h) (kinds-differ e) (λ u d. kinds-differ e (d .0)) (λ a b. tt) (λ n d. d))
 
   part-at : (j k : Kind) (h : Header) (b : Body) (c : Bool) → sameKind j k ≡ c → Sums (before ++ (part j h b ∷ [])) k (per (after x (part j h b)) k)
   part-at j k h b true e = rw (← same-true j k e, put-same) (part-sums before j (per x j) (s .kinds j) h b)

@@ -1,9 +1,9 @@
 -- Each test of a header decides what the layout asks. Assumes nothing.
 use Prim.Native.Nat.{ℕ, suc, _≤_, _<_}
-use mathlib.Core.Path.{_≡_, refl}
-use mathlib.Core.Logic.{_⊎_, inl, inr}
+use mathlib.Core.Path.{_≡_}
+use mathlib.Core.Logic.{_⊎_}
 use mathlib.Core.List.{List, [], _∷_, List·Memᴰ, List·Memᴰ·head, List·Memᴰ·tail, List·Memᴰ·not-nil, List·Memᴰ·cases-cons}
-use mathlib.Core.Bool.{Bool, true, false, _&&_, _||_}
+use mathlib.Core.Bool.{true}
 use lib.Dec.{eqb}
 use Rattle.facts.proofs.Decides.{Decides, yes-is, no-is, lt-is, le-is, eq-is, and-is, or-is, either-of, or-left, or-right, or-split}
 use Rattle.sizes.specs.Sizes.{rows, zoneId, zones}
