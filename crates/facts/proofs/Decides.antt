@@ -60,3 +60,7 @@ and-is {a} {b} p q = (λ e. let s = and-split a b e in (p .0 (s .0), q .0 (s .1)
 pub or-is : {a b : Bool} {P Q : Type 0} → Decides a P → Decides b Q → Decides (a || b) (P ⊎ Q)
 or-is {a} {b} p q =
     (λ e. either-of (or-split a b e) (λ x. inl (p .0 x)) (λ y. inr (q .0 y)), λ h. either-of h (λ x. or-left b (p .1 x)) (λ y. or-right a (q .1 y)))
+
+pub not-is : {a : Bool} {P : Type 0} → Decides a P → Decides (not a) (P → ⊥)
+not-is {a = true} p = (λ e. absurd (false≢true e), λ n. absurd (n (p .0 refl)))
+not-is {a = false} p = (λ e x. absurd (false≢true (p .1 x)), λ n. refl)

@@ -1,3 +1,5 @@
 pub mod Branch
 pub mod Decides
 pub mod Signed
+pub mod Bytes
+pub mod Tail

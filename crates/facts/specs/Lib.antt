@@ -1,2 +1,4 @@
 pub mod Only
 pub mod Text
+pub mod Bytes
+pub mod OnlyLeft

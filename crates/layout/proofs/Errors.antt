@@ -11,7 +11,7 @@ use Rattle.tokens.specs.Listed.{Tok, left, right, word}
 use Rattle.numbers.specs.declared.whole.Whole.{Whole}
 use Rattle.numbers.specs.Whole.{hexadecimalOf, digitOf, digitsIn, wholeOf}
 use Rattle.mesh.specs.declared.Zone.{Zone}
-use Rattle.mesh.specs.Shape.{places, faceWords}
+use Rattle.mesh.specs.Rows.{places, faceWords}
 use Rattle.layout.specs.Items.{Kind, face, Header, Facet, Body, facets, Item, part}
 use Rattle.layout.specs.Grammar.{is-left, number, Heading, heading}
 use Rattle.layout.specs.Keeps.{Room, Some, Declares, partsIn, Laid}

@@ -9,7 +9,7 @@ use mathlib.Core.Bool.{Bool, true, false}
 use borrow.Author.Tests.{not-true}
 use lib.IntN.{pos}
 use lib.ListN.{length}
-use Rattle.mesh.specs.Shape.{places, faceWords, cellWords, nodeWords}
+use Rattle.mesh.specs.Rows.{places, faceWords, cellWords, nodeWords}
 use Rattle.layout.specs.declared.Reply.{Reply}
 use Rattle.layout.specs.Items.{Kind, node, cell, face, Item, dim, decl, part, other}
 use Rattle.layout.specs.Keeps.{roomFor, Within, Some, Declares, partsIn}

@@ -7,7 +7,7 @@ use lib.ListN.{length, getD, replicate, getD-replicate, List·getD-append}
 use lib.Seq.{getD-take, getD-append-add}
 use Rattle.facts.proofs.Decides.{either-of}
 use Rattle.tokens.specs.Listed.{Tok}
-use Rattle.mesh.specs.Shape.{places}
+use Rattle.mesh.specs.Rows.{places}
 use Rattle.layout.specs.Items.{Kind, face, Perhaps, given, Header, countOf, Facet, Body, facets, Item, part}
 use Rattle.layout.specs.Grammar.{Rows, no-rows, a-row, Enclosed, enclosed, Facing, facing, Mixed, mixed, BodyOf, face-mixed, face-same, Section, two, declares, regular, stepped, File, over, section}
 use Rattle.layout.specs.Keeps.{FifthOf}

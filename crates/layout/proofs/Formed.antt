@@ -7,7 +7,7 @@ use mathlib.Core.List.{List, [], _∷_, _++_, map}
 use lib.IntN.{ℤ, pos}
 use lib.ListN.{length, getD, replicate, length-append, length-replicate, List·getD-append}
 use lib.Seq.{length-take-le, getD-append-add}
-use Rattle.mesh.specs.Shape.{places, faceWords, cellWords, nodeWords}
+use Rattle.mesh.specs.Rows.{places, faceWords, cellWords, nodeWords}
 use Rattle.layout.specs.Items.{Header, countOf, Pair, Facet, Body, points, elements, facets}
 use Rattle.layout.specs.Rows.{Table, joined, pieceOf, pad, nodeTable, faceRow, faceTable, cellTable}
 use Rattle.layout.proofs.Bodies.{Suits, sizeOf}

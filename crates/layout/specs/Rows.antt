@@ -7,7 +7,7 @@ use mathlib.Core.Bool.{Bool, true, false}
 use lib.IntN.{ℤ, pos}
 use lib.ListN.{length, getD, take, replicate}
 use Rattle.mesh.specs.declared.Zone.{Zone}
-use Rattle.mesh.specs.Shape.{places, faceWords, cellWords, nodeWords}
+use Rattle.mesh.specs.Rows.{places, faceWords, cellWords, nodeWords}
 use Rattle.layout.specs.Items.{Kind, node, cell, face, idOf, Perhaps, absent, given, Header, Pair, Facet, Body, points, elements, facets, Item, dim, decl, part, other}
 use Rattle.layout.specs.Keeps.{Limit, most, Room}
 

@@ -1,0 +1,8 @@
+mod Loop
+mod Counting
+mod Whole
+pub mod Faults
+pub mod Shown
+pub mod Held
+pub mod Only
+pub mod Cases

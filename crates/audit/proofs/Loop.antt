@@ -1,0 +1,121 @@
+-- A loop that lays g i, g (i + 1), .. one behind the other: `Lays` is its invariant, over what is left to lay. Assumes nothing.
+use Prim.Native.Nat.{ℕ, _-_, _+_, _≤_, _<_}
+use native.Mathlib.Omega.{arith}
+use mathlib.Core.Path.{_≡_, refl, sym, ap, _∙_}
+use mathlib.Core.Bool.{Bool, true, false, _&&_}
+use mathlib.Core.List.{List}
+use lib.Dec.{leb, eqb}
+use lib.ListN.{length, getD, length-append}
+use Rattle.facts.proofs.Branch.{either}
+use Rattle.facts.proofs.Decides.{and-is, le-is}
+use Rattle.mesh.specs.Rows.{faceAt, cellAt}
+use Rattle.audit.specs.All.{faceFaults, cellFaults}
+use Rattle.records.specs.declared.Fault.{Fault}
+use Rattle.records.specs.declared.Pen.{Pen}
+use Rattle.records.specs.Record.{narrow, fault}
+use Rattle.records.specs.Laid.{Laid, laid, step, run}
+use Rattle.records.proofs.Laid.{run-append, run-length}
+use Rattle.faults.specs.Over.{each}
+use Rattle.mesh.specs.declared.Face.{Face}
+use Rattle.mesh.specs.declared.Cell.{Cell}
+use Rattle.faults.specs.declared.Frame.{Frame}
+use Rattle.faults.specs.Faults.{lookedAt, positionsOf, faultsOfFace, faultsOfCell, hasFault, faultIf, faultAt, hasCellFault, cellExtra, cellFaultAt, anyFault}
+use Rattle.faults.proofs.Any.{face-empty}
+use Rattle.faults.proofs.Over.{each-more, each-none}
+use Rattle.audit.specs.declared.Stand.{Stand}
+use Rattle.audit.specs.Steps.{Visited}
+
+pub record Lays (old : List ℕ) (s₀ : Stand) (rest whole : List Fault) (n : ℕ) (list : List ℕ) (s : Stand) : Type 0 where
+  pub ran : run narrow (laid list (s .pen)) rest ≡ run narrow (laid old (s₀ .pen)) whole
+  pub counted : s .total + length rest ≡ s₀ .total + length whole
+  pub few : s .total ≤ s₀ .total + n
+  pub kept : length list ≡ length old
+
+-- a range of which a of b numbers are done, and the next is i
+pub start : {old : List ℕ} {s₀ : Stand} (g : ℕ → List Fault) (i a b k c : ℕ) → b - a ≡ k
+    → Lays old s₀ (each g i (b - a)) (each g i k) c old s₀
+start g i a b k c e = record { ran = rw e; counted = rw e; few = omega arith; kept = refl }
+
+visited-length : {old new : List ℕ} {s r : Stand} {fs : List Fault} {n : ℕ} → Visited old s fs n new r → length new ≡ length old
+visited-length {old} {new} {s} {r} {fs} v = ap (λ (l : Laid). length (l .buf)) (v .ran) ∙ run-length narrow (laid old (s .pen)) fs
+
+module _ {old : List ℕ} {s₀ : Stand} {whole : List Fault} {c : ℕ} {list : List ℕ} {s : Stand} where
+  pub turn : {list′ : List ℕ} {s′ : Stand} (g : ℕ → List Fault) (i a b d c′ : ℕ) → a < b → c + d ≤ c′
+      → Lays old s₀ (each g i (b - a)) whole c list s → Visited list s (g i) d list′ s′
+      → Lays old s₀ (each g (i + 1) (b - (a + 1))) whole c′ list′ s′
+  turn g i a b d c′ h more l v = record {
+    ran =
+        rw (v .ran) (sym (run-append narrow (laid list (s .pen)) (g i) (each g (i + 1) (b - (a + 1)))) ∙ ap (run narrow (laid list (s .pen))) (sym (each-more g i a b h)) ∙ l .ran);
+    counted =
+        let e = ap length (each-more g i a b h) ∙ length-append (g i) (each g (i + 1) (b - (a + 1))) in
+        omega (arith, e, v .counted, l .counted);
+    few = omega (arith, v .counted, v .few, l .few);
+    kept = visited-length v ∙ l .kept;
+  }
+
+  pub done : (g : ℕ → List Fault) (i a b c′ : ℕ) → b ≤ a → c ≤ c′ → Lays old s₀ (each g i (b - a)) whole c list s → Visited old s₀ whole c′ list s
+  unfolding run
+  done g i a b c′ h more l =
+      let e = each-none g i a b h in
+      let k : s .total ≡ s₀ .total + length whole = omega (arith, ap length e, l .counted) in
+      record { ran = rw e at (l .ran); counted = k; few = omega (arith, k, l .few) }
+
+-- one fault that is there, or is not
+module _ (b : Bool) (f : Fault) (old : List ℕ) (s : Stand) where
+  pub visited-one : (new : List ℕ) (pen : Pen) → b ≡ true → laid new pen ≡ step narrow (laid old (s .pen)) f
+      → Visited old s (faultIf b f) 1 new (record { pen = pen; total = s .total + 1 })
+  unfolding run
+  visited-one new pen h e = rw h (record { ran = e; counted = refl; few = omega arith })
+
+  pub visited-none : b ≡ false → Visited old s (faultIf b f) 1 old s
+  unfolding run
+  visited-none h = rw h (record { ran = refl; counted = omega arith; few = omega arith })
+
+-- one kind at one position of a face, one kind at a cell
+module _ (n : ℕ) (frame : Frame) (i : ℕ) (face : Face) (k p : ℕ) (old : List ℕ) (s : Stand) where
+  pub face-found : {new : List ℕ} {pen : Pen} → hasFault n frame face k p ≡ true → laid new pen ≡ step narrow (laid old (s .pen)) (fault k i p)
+      → Visited old s (faultAt n frame i face k p) 1 new (record { pen = pen; total = s .total + 1 })
+  unfolding faultAt
+  face-found h e = visited-one (hasFault n frame face k p) (fault k i p) old s _ _ h e
+
+  pub face-clear : hasFault n frame face k p ≡ false → Visited old s (faultAt n frame i face k p) 1 old s
+  unfolding faultAt
+  face-clear h = visited-none (hasFault n frame face k p) (fault k i p) old s h
+
+module _ (frame : Frame) (i : ℕ) (cell : Cell) (count k : ℕ) (old : List ℕ) (s : Stand) where
+  pub cell-found : {new : List ℕ} {pen : Pen} (e : ℕ) → hasCellFault frame cell count k ≡ true → e ≡ cellExtra count k
+      → laid new pen ≡ step narrow (laid old (s .pen)) (fault k i e)
+      → Visited old s (cellFaultAt frame i cell count k) 1 new (record { pen = pen; total = s .total + 1 })
+  unfolding cellFaultAt
+  cell-found e h q r = visited-one (hasCellFault frame cell count k) (fault k i (cellExtra count k)) old s _ _ h (rw q at r)
+
+  pub cell-clear : hasCellFault frame cell count k ≡ false → Visited old s (cellFaultAt frame i cell count k) 1 old s
+  unfolding cellFaultAt
+  cell-clear h = visited-none (hasCellFault frame cell count k) (fault k i (cellExtra count k)) old s h
+
+-- no kind looks at more positions than there are places
+positionsOf-most : (n : ℕ) (face : Face) (k : ℕ) → 2 ≤ n → positionsOf n face k ≤ n
+unfolding positionsOf lookedAt
+positionsOf-most n face k h =
+    either (λ (m : ℕ). m ≤ n) (leb 2 k && leb k 3)
+    (λ _. either (λ (m : ℕ). m ≤ n) (leb 2 (face .count) && leb (face .count) n) (λ t. and-is (le-is 2 (face .count)) (le-is (face .count) n) .0 t .1) (λ _. omega arith))
+    (λ _. either (λ (m : ℕ). m ≤ n) (eqb k 4) (λ _. h) (λ _. omega arith))
+
+-- a face without any fault lays nothing
+pub face-none : (n : ℕ) (frame : Frame) (i : ℕ) (face : Face) (d : ℕ) {old : List ℕ} {s : Stand} → anyFault n frame face ≡ false
+    → Visited old s (faultsOfFace n frame i face) d old s
+unfolding run
+face-none n frame i face d e = rw (face-empty n frame i face e) (record { ran = refl; counted = omega arith; few = omega arith })
+
+-- the face of number f + 1 is the row at f
+pub face-visited : (n : ℕ) (frame : Frame) (rows : List ℕ) (f : ℕ) (face : Face) {old new : List ℕ} {s r : Stand} {d : ℕ} → face ≡ faceAt n rows f
+    → Visited old s (faultsOfFace n frame (f + 1) face) d new r → Visited old s (faceFaults n frame rows (f + 1)) d new r
+face-visited n frame rows f face e v = let z : f + 1 - 1 ≡ f = omega arith in rw (z, ← e) v
+
+pub cell-visited : (frame : Frame) (rows counts : List ℕ) (c : ℕ) (cell : Cell) {old new : List ℕ} {s r : Stand} {d : ℕ} → cell ≡ cellAt rows c
+    → Visited old s (faultsOfCell frame (c + 1) cell (getD counts c 0)) d new r
+    → Visited old s (cellFaults frame rows (λ i. getD counts (i - 1) 0) (c + 1)) d new r
+cell-visited frame rows counts c cell e v = let z : c + 1 - 1 ≡ c = omega arith in rw (z, ← e) v
+
+pub positions-few : (n : ℕ) (face : Face) (k : ℕ) {r : ℕ} → 2 ≤ n → r ≡ positionsOf n face k → r ≤ n
+positions-few n face k h e = rw e (positionsOf-most n face k h)

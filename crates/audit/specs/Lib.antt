@@ -1,0 +1,4 @@
+pub mod All
+pub mod Audit
+pub mod Steps
+pub mod Shown

@@ -1,0 +1,5 @@
+pub mod Over
+pub mod Faults
+pub mod Sides
+pub mod Wrong
+pub mod Order

@@ -1,0 +1,50 @@
+-- `mesh::cell_at` meets its contract: both words of the row, by the laws of rows. Assumes nothing.
+use borrow.Author.Needs.{needs}
+use Rattle.mesh.proofs.Rows.{cell-there, cell-past}
+use Rattle.mesh.proofs.cell_at.Statement.{statement}
+use Rattle.mesh.proofs.cell_at.Tie as tie
+
+mul-start : tie.Need-mul-start
+mul-start c = search needs
+
+add-end : tie.Need-add-end
+add-end c = search needs
+
+mul-row : tie.Need-mul-row
+mul-row c = search needs
+
+sub-row : tie.Need-sub-row
+sub-row c = search needs
+
+part-row-start : tie.Need-part-row-start
+part-row-start c = search needs
+
+part-row-end : tie.Need-part-row-end
+part-row-end c = search needs
+
+shared-slice-read-t14 : tie.Need-shared-slice-read-t14
+shared-slice-read-t14 c = search needs
+
+shared-slice-read-t16 : tie.Need-shared-slice-read-t16
+shared-slice-read-t16 c = search needs
+
+returns : tie.Need-returns
+returns c = cell-there _ _ (search needs)
+
+returns-2 : tie.Need-returns-2
+returns-2 c = cell-past _ _ (search needs)
+
+pub cell-at-spec : {M : Type 1} → statement M
+cell-at-spec =
+    tie.close
+    (tie.spec
+    mul-start
+    add-end
+    mul-row
+    sub-row
+    part-row-start
+    part-row-end
+    shared-slice-read-t14
+    shared-slice-read-t16
+    returns
+    returns-2)
