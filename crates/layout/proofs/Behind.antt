@@ -3,11 +3,10 @@ use Prim.Native.Nat.{ℕ, _≤_, _<_}
 use native.Mathlib.Omega.{arith}
 use mathlib.Core.List.{List, _∷_}
 use lib.ListN.{length}
-use Rattle.tokens.specs.Listed.{Tok, left, right, text, cut, word}
+use Rattle.tokens.specs.Listed.{Tok}
 use Rattle.numbers.specs.declared.whole.Whole.{Whole}
 use Rattle.layout.specs.Items.{Kind, Perhaps, Header, Body, Item}
 use Rattle.layout.specs.Grammar.{Left, is-left, Right, is-right, Number, number, Hex, Coordinate, coordinate, Fifth, present, missing, Heading, heading, Rows, no-rows, a-row, Enclosed, enclosed, Element, element, Facing, facing, Mixed, mixed, BodyOf, node-body, cell-mixed, cell-same, face-mixed, face-same, Inside, closed, a-word, a-text, nested, Section, two, declares, regular, stepped}
-use Rattle.layout.specs.Replies.{leftsIn}
 
 -- us is an end of ts
 pub data Behind : List Tok → List Tok → Type 0 where
@@ -21,17 +20,6 @@ and-on (on p) q = on (and-on p q)
 pub behind-length : {us ts : List Tok} → Behind us ts → length us ≤ length ts
 behind-length all = omega arith
 behind-length (on p) = omega (arith, behind-length p)
-
-lefts-more : (t : Tok) (ts : List Tok) → leftsIn ts ≤ leftsIn (t ∷ ts)
-lefts-more (left o) ts = omega arith
-lefts-more (right o) ts = omega arith
-lefts-more (text o) ts = omega arith
-lefts-more (cut o) ts = omega arith
-lefts-more (word o w) ts = omega arith
-
-pub behind-lefts : {us ts : List Tok} → Behind us ts → leftsIn us ≤ leftsIn ts
-behind-lefts all = omega arith
-behind-lefts (on {t} {ts = ts} p) = omega (arith, behind-lefts p, lefts-more t ts)
 
 -- ---- single tokens
 left-behind : {ts us : List Tok} → Left ts us → Behind us ts
@@ -99,12 +87,6 @@ body-behind (face-mixed p) = enclosed-behind Mixed mixed-behind p
 body-behind (face-same {c = c} h p) = enclosed-behind (Facing c) (facing-behind c) p
 
 -- ---- sections
-pub section-behind : {ts us : List Tok} {i : Item} → Section ts i us → Behind us ts
-section-behind (two i h r) = and-on (number-behind i) (and-on (number-behind h) (right-behind r))
-section-behind (declares k i a z q) = and-on (number-behind i) (and-on (heading-behind a) (right-behind q))
-section-behind (regular k i a z b q) = and-on (number-behind i) (and-on (heading-behind a) (and-on (body-behind b) (right-behind q)))
-section-behind (stepped i s h) = and-on (number-behind i) (inside-behind h)
-
 -- a section takes its id at least, so that a file has no more sections than tokens
 pub section-less : {ts us : List Tok} {i : Item} → Section ts i us → length us < length ts
 section-less (two i h r) = omega (arith, number-less i, behind-length (and-on (number-behind h) (right-behind r)))

@@ -11,6 +11,7 @@ pub mod SoundWords
 pub mod SoundSections
 pub mod Sound
 pub mod Behind
+pub mod Levels
 pub mod CompleteWords
 pub mod CompleteSections
 pub mod Complete

@@ -16,14 +16,14 @@ use Rattle.layout.specs.declared.Reply.{Reply}
 use Rattle.layout.specs.Items.{Item}
 use Rattle.layout.specs.Keeps.{Room}
 use Rattle.layout.specs.Rows.{Lent, roomOf}
-use Rattle.layout.specs.Replies.{numberOf, leftsIn, Points}
+use Rattle.layout.specs.Replies.{numberOf, sectionsIn, Points}
 use Rattle.layout.specs.Reading.{Got}
 use Rattle.layout.specs.State.{State, start, after}
 use Rattle.layout.specs.Read.{Answer, accepted, refused, tiledPer, ending, onward, behind, endOf, fileOf, answerOf, resultOf, readOf}
 use Rattle.layout.proofs.Answers.{Held, held, none}
 use Rattle.layout.proofs.Sums.{Seen, none-seen, one-more}
 use Rattle.layout.proofs.SoundSections.{section-holds}
-use Rattle.layout.proofs.Behind.{section-behind, behind-lefts}
+use Rattle.layout.proofs.Levels.{section-level}
 use Rattle.layout.proofs.SafeWords.{AllIn, one-in, text-in, Safe, safe, points}
 use Rattle.layout.proofs.Safe.{section-safe}
 
@@ -70,7 +70,7 @@ module _ (size m : ℕ) (room : Room) where
   onward-placed l (held {a} {us} p) (safe q i) h = h a us p i
   onward-placed l none (points o) h = placed l o
 
-  file-placed : (n : ℕ) (before : List Item) (x : State) → Seen before x → (k : ℕ) (ts : List Tok) → AllIn size ts → k + leftsIn ts ≤ m
+  file-placed : (n : ℕ) (before : List Item) (x : State) → Seen before x → (k : ℕ) (ts : List Tok) → AllIn size ts → k + sectionsIn ts ≤ m
       → Placed m size (fileOf size room n x k ts)
   unfolding fileOf
   file-placed zero before x s k ts i l = let h : k ≤ m = omega arith in placed h (le-refl size)
@@ -79,22 +79,22 @@ module _ (size m : ℕ) (room : Room) where
       let h : suc k ≤ m = omega arith in
       onward-placed h (section-holds size before x s room ts) (section-safe size room x ts i) λ a us g j.
       behind-placed a (file-placed n (before ++ (a ∷ [])) (after x a) (one-more before x s room a (g .1)) (suc k) us j
-      (omega (arith, behind-lefts (section-behind (g .0)))))
+      (omega (arith, section-level (g .0))))
   file-placed (suc n) before x s k (right o ∷ ts) (one-in p i) l = let h : k ≤ m = omega arith in placed h p
   file-placed (suc n) before x s k (text o ∷ ts) (one-in p i) l = let h : k ≤ m = omega arith in placed h p
   file-placed (suc n) before x s k (cut o ∷ ts) (one-in p i) l = let h : k ≤ m = omega arith in placed h p
   file-placed (suc n) before x s k (word o w ∷ ts) (one-in p i) l = let h : k ≤ m = omega arith in let q : o ≤ size = omega (arith, p) in placed h q
 
-answer-placed : (room : Room) (s : List ℕ) → Placed (leftsIn (tokensOf s)) (length s) (answerOf room s)
+answer-placed : (room : Room) (s : List ℕ) → Placed (sectionsIn (tokensOf s)) (length s) (answerOf room s)
 unfolding answerOf
 answer-placed room s =
-    either (Placed (leftsIn (tokensOf s)) (length s)) (leb (length s) fileBytes)
-    (λ _. file-placed (length s) (leftsIn (tokensOf s)) room _ [] start none-seen 0 (tokensOf s)
+    either (Placed (sectionsIn (tokensOf s)) (length s)) (leb (length s) fileBytes)
+    (λ _. file-placed (length s) (sectionsIn (tokensOf s)) room _ [] start none-seen 0 (tokensOf s)
     (text-in (length s) (text-exactly s (tokensOf s) .0 refl) (omega arith)) (omega arith))
-    (λ _. let a : 0 ≤ leftsIn (tokensOf s) = omega arith in let b : 0 ≤ length s = omega arith in placed a b)
+    (λ _. let a : 0 ≤ sectionsIn (tokensOf s) = omega arith in let b : 0 ≤ length s = omega arith in placed a b)
 
 module _ (s : List ℕ) (old : Lent) (w : Refusal) (k o : ℕ) where
-  by-answer : {a : Answer} → Placed (leftsIn (tokensOf s)) (length s) a → resultOf a old .reply ≡ Reply.Refused w k o
+  by-answer : {a : Answer} → Placed (sectionsIn (tokensOf s)) (length s) a → resultOf a old .reply ≡ Reply.Refused w k o
       → Points s w k o × (resultOf a old .held ≡ old)
   by-answer all-read e = absurd (let z : _≡_ {A = ℕ} 0 1 = cc in omega arith)
   by-answer (placed {k = j} {o = q} l h) e =

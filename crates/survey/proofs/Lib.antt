@@ -1,0 +1,16 @@
+pub mod Taken
+pub mod Stepping
+pub mod Chain
+pub mod Forgotten
+pub mod Loose
+pub mod Shapes
+pub mod Listing
+pub mod Keeping
+pub mod Judging
+pub mod Gates
+pub mod Sections
+pub mod Ids
+pub mod Noting
+pub mod Closing
+pub mod Filing
+pub mod Only

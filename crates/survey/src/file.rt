@@ -1,0 +1,159 @@
+// A whole file, judged: section by section, then what must hold at its end.
+ghost use mathlib.Core.Path.{_≡_};
+ghost use mathlib.Core.Bool.{_&&_};
+ghost use lib.ListN.{length};
+ghost use Prim.Native.Nat.{_≤_};
+ghost use Rattle.sizes.specs.Sizes.{fileBytes, zones};
+ghost use Rattle.tokens.specs.Listed.{tokensFrom};
+ghost use Rattle.layout.specs.Read.{endOf, tokensAnswer, answerOf};
+ghost use Rattle.survey.specs.Sections.{stateFor, roomAll};
+ghost use Rattle.survey.specs.Files.{verdict, closing, lastOf};
+use super::judge::Room;
+use super::judge::Seen;
+use super::judge::State;
+use super::kept::is_tiled;
+use super::note::keep;
+use super::note::noted;
+use super::section::Sect;
+use super::section::section_at;
+use layout::Refusal;
+use layout::Reply;
+use tokens::Cursor;
+use tokens::Token;
+
+fn all_three(a: bool, b: bool, c: bool) -> bool
+    ensures { λ r. ⌜ r ≡ (a && (b && c)) ⌝ }
+{
+    a && (b && c)
+}
+
+fn refused(why: Refusal, section: u32, offset: usize) -> Reply
+    ensures { λ r. ⌜ r ≡ Reply.Refused why section offset ⌝ }
+{
+    Reply::Refused {
+        why,
+        section,
+        offset,
+    }
+}
+
+// "At the end: 13, 10, 14."
+fn closing_of(declared: bool, known: bool, covered: bool, x: State, k: u32, size: usize) -> Reply
+    ensures { λ r. ⌜ r ≡ closing declared known covered x k size ⌝ }
+{
+    if !declared {
+        return refused(Refusal::Missing, k, size);
+    }
+    if !known {
+        return refused(Refusal::Dimension, k, size);
+    }
+    if !covered {
+        return refused(Refusal::Untiled, k, size);
+    }
+    let nodes = x.nodes;
+    let cells = x.cells;
+    let faces = x.faces;
+    Reply::Accepted {
+        dim: x.dim,
+        nodes: nodes.total,
+        faces: faces.total,
+        cells: cells.total,
+        zones: x.zones,
+    }
+}
+
+fn end_of(x: State, ids: &[u32], firsts: &[u32], lasts: &[u32], k: u32, size: usize) -> Reply
+    ensures { λ r. ⌜ r ≡ verdict (endOf size (stateFor (now (ids .entry)) (now (firsts .entry)) (now (lasts .entry)) x) k) ⌝ }
+{
+    let nodes = x.nodes;
+    let cells = x.cells;
+    let faces = x.faces;
+    let z = x.zones as usize;
+    let n = is_tiled(ids, firsts, lasts, z, 10, nodes.total);
+    let c = is_tiled(ids, firsts, lasts, z, 12, cells.total);
+    let f = is_tiled(ids, firsts, lasts, z, 13, faces.total);
+    let covered = all_three(n, c, f);
+    let declared = all_three(nodes.declared, faces.declared, true);
+    let known = x.dim != 0;
+    closing_of(declared, known, covered, x, k, size)
+}
+
+// A token that opens no section: the end, or what stands in no file.
+fn last_of(
+    kind: Token,
+    start: usize,
+    x: State,
+    ids: &[u32],
+    firsts: &[u32],
+    lasts: &[u32],
+    k: u32,
+    size: usize,
+) -> Reply
+    ensures { λ r. ⌜ r ≡ lastOf kind start (stateFor (now (ids .entry)) (now (firsts .entry)) (now (lasts .entry)) x) k size ⌝ }
+{
+    match kind {
+        Token::End => end_of(x, ids, firsts, lasts, k, size),
+        Token::Left => refused(Refusal::Grammar, k, start),
+        Token::Right => refused(Refusal::Grammar, k, start),
+        Token::Text => refused(Refusal::Grammar, k, start),
+        Token::Word => refused(Refusal::Grammar, k, start),
+        Token::Unclosed => refused(Refusal::Grammar, k, start),
+    }
+}
+
+// The sections of a file that is not too long, from its first byte. The three slices hold what was met of the regular ones.
+fn file_from(s: &[u8], room: Room, ids: &mut [u32], firsts: &mut [u32], lasts: &mut [u32]) -> Reply
+    requires { ⌜ (length (now s) ≤ fileBytes) × ((length (now ids) ≡ zones) × ((length (now firsts) ≡ zones) × (length (now lasts) ≡ zones))) ⌝ }
+    ensures { λ r. ⌜ r ≡ verdict (tokensAnswer (length (now (s .entry))) (roomAll room) (tokensFrom (now (s .entry)) 0)) ⌝ }
+{
+    let none = Seen {
+        declared: false,
+        total: 0,
+    };
+    let mut x = State {
+        dim: 0,
+        nodes: none,
+        cells: none,
+        faces: none,
+        zones: 0,
+    };
+    let mut c: usize = 0;
+    let mut k: u32 = 0;
+    loop {
+        let t = (Cursor { at: c }).token(s);
+        let kind = t.token;
+        let start = t.start;
+        let next = t.next.at;
+        let Token::Left = kind else {
+            return last_of(kind, start, x, ids, firsts, lasts, k, s.len());
+        };
+        k += 1;
+        let r = section_at(s, next, x, room, ids, firsts, lasts);
+        match r {
+            Sect::No(bad) => {
+                let why = bad.why;
+                let offset = bad.offset;
+                return refused(why, k, offset);
+            }
+            Sect::Is { met, next: to } => {
+                let z = x.zones;
+                keep(ids, firsts, lasts, z, met);
+                x = noted(x, met);
+                c = to;
+            }
+        }
+    }
+}
+
+// Judges a file: what reading it into tables with this room answers. No table is touched.
+pub fn survey(s: &[u8], room: Room) -> Reply
+    ensures { λ r. ⌜ r ≡ verdict (answerOf (roomAll room) (now (s .entry))) ⌝ }
+{
+    if sizes::FILE_BYTES < s.len() {
+        return refused(Refusal::TooLong, 0, 0);
+    }
+    let mut ids: [u32; 64] = [0; 64];
+    let mut firsts: [u32; 64] = [0; 64];
+    let mut lasts: [u32; 64] = [0; 64];
+    file_from(s, room, &mut ids, &mut firsts, &mut lasts)
+}
