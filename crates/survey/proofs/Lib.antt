@@ -13,4 +13,5 @@ pub mod Ids
 pub mod Noting
 pub mod Closing
 pub mod Filing
+pub mod Accepted
 pub mod Only
