@@ -25,12 +25,6 @@ body-suits (cell-same h) = tt
 body-suits (face-mixed p) = tt
 body-suits (face-same h p) = tt
 
--- a node body has this width
-abbrev pub Wide : ℕ → Body → Type 0
-Wide d (points e ps) = e ≡ d
-Wide d (elements es) = Unit
-Wide d (facets fs) = Unit
-
 abbrev pub sizeOf : Body → ℕ
 sizeOf (points d ps) = length ps
 sizeOf (elements es) = length es

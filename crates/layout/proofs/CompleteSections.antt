@@ -10,7 +10,7 @@ use lib.Dec.{eqb}
 use Rattle.facts.proofs.Decides.{or-is, lt-is, ne-is, or-left, or-right, either-of}
 use Rattle.tokens.specs.Listed.{Tok}
 use Rattle.numbers.specs.declared.sort.Sort.{Sort}
-use Rattle.layout.specs.Items.{Kind, node, cell, face, idOf, Perhaps, absent, given, Header, countOf, Body, points, elements, facets, Item, dim, decl, part, other, dimWord}
+use Rattle.layout.specs.Items.{Kind, node, cell, face, idOf, Perhaps, absent, given, Header, countOf, Body, points, elements, facets, Item, dim, decl, part, other, dimWord, Wide}
 use Rattle.layout.specs.Grammar.{Right, Id, Hex, BodyOf, Inside, Stepped, Section, two, declares, regular, stepped}
 use Rattle.layout.specs.Keeps.{Room, roomFor, Some, SaysDim, Agrees, DimFits, FifthOf, WidthFits, DeclFits, PartFits, Fits}
 use Rattle.layout.specs.Reading.{got}
@@ -19,8 +19,8 @@ use Rattle.layout.specs.Sections.{Head, headerOf, headOf, twoOf, declOf,
 use Rattle.layout.proofs.Tests.{among-is, fits-is, decl-range-is, part-range-is, zone-fits-is, listed-is, type-is}
 use Rattle.layout.proofs.Dims.{dims-same, dim-is}
 use Rattle.layout.proofs.Sums.{Seen, total-is}
-use Rattle.layout.proofs.Bodies.{Suits, body-suits, Wide}
-use Rattle.layout.proofs.CompleteWords.{MayLack, right-is, number-is, hex-is, skip-is, body-is, head-is}
+use Rattle.layout.proofs.Bodies.{Suits, body-suits}
+use Rattle.layout.proofs.CompleteWords.{MayLack, right-is, number-is, hex-is, skip-is, body-is, head-is, lacks-decl, lacks-part}
 
 module _ (size : ℕ) where
   module _ (before : List Item) (x : State) (s : Seen before x) (room : Room) where
@@ -109,18 +109,6 @@ module _ (size : ℕ) where
     unfolding kindOf
     kind-part k h ts us e z = rw (e, ne-eqb (h .zone .value) 0 (λ y. omega arith))
 
-    lacks-decl : (b : Bool) (v : Perhaps) → b ≡ true → MayLack size b v
-    lacks-decl b absent e = e
-    lacks-decl b (given n) e = tt
-
-    lacks-part : (z : Bool) (k : Kind) (v : Perhaps) → FifthOf k v → MayLack size (z || isNode k) v
-    lacks-part z node absent f = or-right z refl
-    lacks-part z node (given n) f = tt
-    lacks-part z cell absent f = absurd f
-    lacks-part z cell (given n) f = tt
-    lacks-part z face absent f = absurd f
-    lacks-part z face (given n) f = tt
-
     two-first : {ts us : List Tok} → Id ts 2 us → sectionOf size room x ts ≡ twoOf size x us
     unfolding sectionOf
     two-first i = rw (number-is size Sort.SectionId i)
@@ -144,12 +132,12 @@ module _ (size : ℕ) where
     pub section-is : {i : Item} {ts us : List Tok} → Section ts i us → Fits room before i → sectionOf size room x ts ≡ got i us
     section-is (two i h r) f = two-first i ∙ two-is h r f
     section-is (declares {h = h} {us = us} k i a z r) f =
-        let w = head-is size a k (lacks-decl _ (h .fifth) (or-left (isNode k) (eq-eqb (h .zone) 0 z))) in
+        let w = head-is size a k (lacks-decl size _ (h .fifth) (or-left (isNode k) (eq-eqb (h .zone) 0 z))) in
         let e = w .says in
         kind-is k i ∙ kind-decl k (w .head) _ _ (w .reads) (ap (λ (y : Header). y .zone) e ∙ z)
         ∙ decl-is k (w .head) r (subst (λ y. DeclFits room before k y) (sym e) f) ∙ ap (λ y. got (decl k y) us) e
     section-is (regular {h = h} {b = b} {t₂ = t₂} {t₃ = t₃} {us = us} k i a z p r) f =
-        let w = head-is size a k (lacks-part (eqb (h .zone) 0) k (h .fifth) (f .fifth)) in
+        let w = head-is size a k (lacks-part size (eqb (h .zone) 0) k (h .fifth) (f .fifth)) in
         let e = w .says in
         kind-is k i ∙ kind-part k (w .head) _ _ (w .reads) (omega (arith, ap (λ (y : Header). y .zone) e, z))
         ∙ part-is k (w .head) (subst (λ y. BodyOf k (countOf y) (y .fifth) t₂ b t₃) (sym e) p) r (subst (λ y. PartFits room before k y b) (sym e) f)

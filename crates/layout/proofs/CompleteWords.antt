@@ -6,18 +6,18 @@ use mathlib.Core.List.{List, [], _∷_}
 use mathlib.Core.Bool.{Bool, true, false, _||_}
 use borrow.Author.Tests.{lt-ltb}
 use lib.Dec.{eqb}
-use Rattle.facts.proofs.Decides.{and-is, le-is}
+use Rattle.facts.proofs.Decides.{and-is, le-is, or-right}
 use Rattle.sizes.specs.Sizes.{depth}
 use Rattle.tokens.specs.Listed.{Tok, left, right, text, cut, word}
 use Rattle.numbers.specs.declared.whole.Whole.{Whole}
 use Rattle.numbers.specs.declared.sort.Sort.{Sort}
 use Rattle.numbers.proofs.Exactly.{coordinateOf-exactly}
-use Rattle.layout.specs.Items.{Kind, Perhaps, absent, given, Header, Pair, Body}
+use Rattle.layout.specs.Items.{Kind, node, cell, face, Perhaps, absent, given, Header, Pair, Body, Wide}
+use Rattle.layout.specs.Keeps.{FifthOf}
 use Rattle.layout.specs.Grammar.{Left, is-left, Right, is-right, Number, number, Hex, Coordinate, coordinate, Fifth, present, missing, Heading, heading, Rows, no-rows, a-row, Enclosed, enclosed, Element, element, Facing, facing, Mixed, mixed, BodyOf, node-body, cell-mixed, cell-same, face-mixed, face-same, Inside, closed, a-word, a-text, nested}
 use Rattle.layout.specs.Reading.{Got, got, Reader, Read, leftOf, rightOf, wordOf, numberBy, hexWord, pairWord, skip, rowsOf, enclosedOf}
 use Rattle.layout.specs.State.{isNode}
 use Rattle.layout.specs.Sections.{Head, headerOf, Word, fifthOf, headOf, elementOf, hexOf, facingOf, mixedOf, bodyOf}
-use Rattle.layout.proofs.Bodies.{Wide}
 
 -- where the first token stands
 abbrev headAt : List Tok → ℕ
@@ -119,6 +119,18 @@ module _ (size : ℕ) where
   abbrev pub MayLack : Bool → Perhaps → Type 0
   MayLack b absent = b ≡ true
   MayLack b (given v) = Unit
+
+  pub lacks-decl : (b : Bool) (v : Perhaps) → b ≡ true → MayLack b v
+  lacks-decl b absent e = e
+  lacks-decl b (given n) e = tt
+
+  pub lacks-part : (z : Bool) (k : Kind) (v : Perhaps) → FifthOf k v → MayLack (z || isNode k) v
+  lacks-part z node absent f = or-right z refl
+  lacks-part z node (given n) f = tt
+  lacks-part z cell absent f = absurd f
+  lacks-part z cell (given n) f = tt
+  lacks-part z face absent f = absurd f
+  lacks-part z face (given n) f = tt
 
   record Fifths (b : Bool) (ts us : List Tok) (v : Perhaps) : Type 0 where
     pub found : Word

@@ -24,6 +24,7 @@ pub mod Exactly
 pub mod SafeWords
 pub mod Safe
 pub mod Refusals
+pub mod Shown
 pub mod Enough
 pub mod FaceRows
 pub mod Errors

@@ -11,7 +11,7 @@ use Rattle.facts.proofs.Decides.{or-is, lt-is, ne-is, either-of}
 use Rattle.tokens.specs.Listed.{Tok}
 use Rattle.numbers.specs.declared.sort.Sort.{Sort}
 use Rattle.numbers.specs.Whole.{sectionIdOf}
-use Rattle.layout.specs.Items.{Kind, node, cell, face, idOf, Perhaps, absent, given, Header, Body, points, elements, facets, Item, part, dimWord}
+use Rattle.layout.specs.Items.{Kind, node, cell, face, idOf, Perhaps, absent, given, Header, Body, points, elements, facets, Item, part, dimWord, Wide}
 use Rattle.layout.specs.Grammar.{Id, Heading, Stepped, Section, two, declares, regular, stepped}
 use Rattle.layout.specs.Keeps.{Room, roomFor, Some, SaysDim, DimFits, WidthFits, Fits}
 use Rattle.layout.specs.State.{State, per, dimAfter, dimListed, fifthListed, dimAgrees, dimKnown}
@@ -20,7 +20,7 @@ use Rattle.layout.proofs.Answers.{Held, held, bind, sure, fork}
 use Rattle.layout.proofs.Tests.{fits-is, decl-range-is, part-range-is, zone-fits-is, listed-is, type-is, fifth-true}
 use Rattle.layout.proofs.Dims.{dim-known}
 use Rattle.layout.proofs.Sums.{Seen, declared-is}
-use Rattle.layout.proofs.Bodies.{Suits, body-suits, Wide}
+use Rattle.layout.proofs.Bodies.{Suits, body-suits}
 use Rattle.layout.proofs.SoundWords.{top, right-holds, number-holds, hex-holds, skip-holds, body-holds, head-holds}
 
 module _ (size : ℕ) where

@@ -15,12 +15,11 @@ use Rattle.numbers.specs.declared.sort.Sort.{Sort}
 use Rattle.numbers.specs.Whole.{hexadecimalOf}
 use Rattle.numbers.specs.Coordinate.{coordinateOf}
 use Rattle.numbers.proofs.Exactly.{coordinateOf-exactly}
-use Rattle.layout.specs.Items.{Kind, node, cell, face, Perhaps, absent, given}
+use Rattle.layout.specs.Items.{Kind, node, cell, face, Perhaps, absent, given, Wide}
 use Rattle.layout.specs.Grammar.{Left, is-left, Right, is-right, Number, number, Hex, Coordinate, coordinate, Fifth, present, missing, Heading, heading, Rows, no-rows, a-row, Enclosed, enclosed, Element, element, Facing, facing, Mixed, mixed, BodyOf, node-body, cell-mixed, cell-same, face-mixed, face-same, Inside, closed, a-word, a-text, nested}
 use Rattle.layout.specs.Reading.{Reader, Read, leftOf, rightOf, wordOf, numbered, paired, numberBy, hexWord, pairWord, skip, rowsOf, enclosedOf}
 use Rattle.layout.specs.Sections.{headerOf, isRight, fifthOf, headOf, elementOf, hexOf, facingOf, mixedOf, bodyOf}
 use Rattle.layout.proofs.Answers.{Held, held, none, bind, sure, fork, lift}
-use Rattle.layout.proofs.Bodies.{Wide}
 
 -- ---- a section that is stepped over: d parentheses deep in it
 pub data Levels : ℕ → List Tok → List Tok → Type 0 where

@@ -1,5 +1,6 @@
 -- [01:Sections that are read]. What the sections of a file say, with no place, no order of checks and no refusal in it. Assumes nothing.
 use Prim.Native.Nat.{ℕ, suc, _-_}
+use mathlib.Core.Path.{_≡_}
 use mathlib.Core.List.{List}
 use lib.IntN.{ℤ}
 
@@ -45,6 +46,12 @@ pub data Body : Type 0 where
   points : ℕ → List (List Pair) → Body
   elements : List ℕ → Body
   facets : List Facet → Body
+
+-- its nodes, if it has any, have d coordinates each
+abbrev pub Wide : ℕ → Body → Type 0
+Wide d (points e ps) = e ≡ d
+Wide d (elements es) = Unit
+Wide d (facets fs) = Unit
 
 -- a file is a list of these: section 2, a declaration, a regular section, and a section that is stepped over
 pub data Item : Type 0 where

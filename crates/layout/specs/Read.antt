@@ -15,6 +15,7 @@ use Rattle.layout.specs.Rows.{Piece, piecesOf, mantissaTable, exponentTa
 use Rattle.layout.specs.Reading.{Got, got, bad}
 use Rattle.layout.specs.State.{Per, State, start, after, tiled}
 use Rattle.layout.specs.Sections.{sectionOf}
+use Rattle.layout.specs.Replies.{Shown, shown}
 
 -- accepted with the last state and all items, or refused with a section and an offset
 pub data Answer : Type 0 where
@@ -81,6 +82,14 @@ filled is old =
 pub record Result : Type 0 where
   pub reply : Reply
   pub held : Lent
+
+-- the paper's number and values of the answer, and what is then held
+pub record Outcome : Type 0 where
+  pub shown : Shown
+  pub held : Lent
+
+abbrev pub outcome : Result → Outcome
+outcome r = record { shown = shown (r .reply); held = r .held }
 
 -- "A refusal .. changes no table or list."
 abbrev pub resultOf : Answer → Lent → Result

@@ -13,8 +13,8 @@ use Rattle.layout.specs.declared.Reply.{Reply}
 use Rattle.layout.specs.Keeps as Keeps
 use Rattle.layout.specs.State.{tiled}
 use Rattle.layout.specs.Read.{accepted, refused, ending, endOf, tokensAnswer, answerOf}
-use Rattle.survey.specs.declared.judge.State.{State}
-use Rattle.survey.specs.Kept.{keptOf}
+use Rattle.judging.specs.declared.judge.State.{State}
+use Rattle.judging.specs.Kept.{keptOf}
 use Rattle.survey.specs.Sections.{stateFor}
 use Rattle.survey.specs.Files.{verdict, closing}
 

@@ -32,13 +32,13 @@ use Rattle.layout.proofs.Sums.{Seen, none-seen, one-more}
 use Rattle.layout.proofs.SoundSections.{section-holds}
 use Rattle.layout.proofs.Behind.{section-less}
 use Rattle.layout.proofs.Enough.{fileOf-enough}
-use Rattle.survey.specs.declared.step.Bad.{Bad}
-use Rattle.survey.specs.declared.judge.State.{State}
+use Rattle.steps.specs.declared.step.Bad.{Bad}
+use Rattle.judging.specs.declared.judge.State.{State}
 use Rattle.survey.specs.declared.section.Met.{Met}
 use Rattle.survey.specs.declared.section.Sect.{Sect}
-use Rattle.survey.specs.declared.judge.Seen as S
-use Rattle.survey.specs.Kept.{keptOf}
-use Rattle.survey.specs.Judging.{idFor}
+use Rattle.judging.specs.declared.judge.Seen as S
+use Rattle.judging.specs.Kept.{keptOf}
+use Rattle.judging.specs.Judging.{idFor}
 use Rattle.survey.specs.Noting.{noteState, noteId, noteFirst, noteLast}
 use Rattle.survey.specs.Sections.{Outline, other, outlineOf, outlined, metFor, sectView, SectAt, stateFor}
 use Rattle.survey.specs.Files.{verdict, lastOf}

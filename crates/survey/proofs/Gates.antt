@@ -13,15 +13,15 @@ use Rattle.layout.specs.Items as Items
 use Rattle.layout.specs.Reading.{Got, got, bad, Reader, next, pure, choose, rightOf}
 use Rattle.layout.specs.State.{dimAfter, dimAgrees, dimListed, typeListed, fifthListed, fitsIn, declRange, partRange, zoneFits}
 use Rattle.layout.specs.Sections.{headerOf, bodyOf, declOf, partOf}
-use Rattle.survey.specs.declared.head.Kind.{Kind}
-use Rattle.survey.specs.declared.head.Head.{Head}
-use Rattle.survey.specs.declared.judge.State.{State}
-use Rattle.survey.specs.declared.judge.Room.{Room}
-use Rattle.survey.specs.declared.judge.Judged.{Judged}
+use Rattle.steps.specs.declared.head.Kind.{Kind}
+use Rattle.steps.specs.declared.head.Head.{Head}
+use Rattle.judging.specs.declared.judge.State.{State}
+use Rattle.judging.specs.declared.judge.Room.{Room}
+use Rattle.judging.specs.declared.judge.Judged.{Judged}
 use Rattle.survey.specs.declared.section.Met.{Met}
-use Rattle.survey.specs.Heads.{kindFor, fifthFor, headFor}
-use Rattle.survey.specs.Bodies.{forget}
-use Rattle.survey.specs.Judging.{limitFor, dimWordFor, agrees, known, seenOf, roomOf, test, declJudged, partJudged, countFor}
+use Rattle.steps.specs.Heads.{kindFor, fifthFor, headFor}
+use Rattle.bodies.specs.Bodies.{forget}
+use Rattle.judging.specs.Judging.{limitFor, dimWordFor, agrees, known, seenOf, roomOf, test, declJudged, partJudged, countFor}
 use Rattle.survey.specs.Sections.{Outline, outlineOf, outlined, metFor, roomAll, stateFor, clearFor, gate, ended, bodyEnded}
 
 -- ---- the tests of the code are those of the layout

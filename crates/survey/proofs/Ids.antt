@@ -15,12 +15,12 @@ use Rattle.layout.specs.State as St
 use Rattle.layout.specs.Reading as R
 use Rattle.layout.specs.Reading.{Got, got, bad, Reader, next, check, choose, idWord}
 use Rattle.layout.specs.Sections.{twoOf, kindOf, otherOf, sectionOf}
-use Rattle.survey.specs.declared.step.Bad.{Bad}
-use Rattle.survey.specs.declared.step.Num.{Num}
+use Rattle.steps.specs.declared.step.Bad.{Bad}
+use Rattle.steps.specs.declared.step.Num.{Num}
 use Rattle.survey.specs.declared.section.Sect.{Sect}
-use Rattle.survey.specs.Views.{NumAt}
+use Rattle.steps.specs.Views.{NumAt}
 use Rattle.survey.specs.Sections.{outlined, SectAhead, SectAt, byId}
-use Rattle.survey.proofs.Chain.{num-no, num-to, num-ahead}
+use Rattle.steps.proofs.Chain.{num-no, num-to, num-ahead}
 use Rattle.survey.proofs.Sections.{two-no, two-to}
 
 yes : {b : Bool} (p q : Reader Items.Item) (ts : List Tok) → b ≡ true → p ts ≡ choose b p q ts

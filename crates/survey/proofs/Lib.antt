@@ -1,12 +1,3 @@
-pub mod Taken
-pub mod Stepping
-pub mod Chain
-pub mod Forgotten
-pub mod Loose
-pub mod Shapes
-pub mod Listing
-pub mod Keeping
-pub mod Judging
 pub mod Gates
 pub mod Sections
 pub mod Ids

@@ -13,17 +13,17 @@ use Rattle.sizes.specs.Sizes.{zones}
 use Rattle.layout.specs.Items as Items
 use Rattle.layout.specs.State as St
 use Rattle.layout.specs.State.{Span, per, put, spanned, declaredAs, after, dimAfter}
-use Rattle.survey.specs.declared.head.Kind.{Kind}
-use Rattle.survey.specs.declared.head.Head.{Head}
-use Rattle.survey.specs.declared.judge.State.{State}
+use Rattle.steps.specs.declared.head.Kind.{Kind}
+use Rattle.steps.specs.declared.head.Head.{Head}
+use Rattle.judging.specs.declared.judge.State.{State}
 use Rattle.survey.specs.declared.section.Met.{Met}
-use Rattle.survey.specs.declared.head.Fifth.{Fifth}
-use Rattle.survey.specs.Heads.{fifthFor}
-use Rattle.survey.specs.Judging.{idFor, dimWordFor}
+use Rattle.steps.specs.declared.head.Fifth.{Fifth}
+use Rattle.steps.specs.Heads.{fifthFor}
+use Rattle.judging.specs.Judging.{idFor, dimWordFor}
 use Rattle.survey.specs.Noting.{more, withSeen, withDim, dimWith, noteState, noteId, noteFirst, noteLast}
 use Rattle.survey.specs.Sections.{Outline, dim, decl, part, other, outlineOf, metFor, stateFor}
-use Rattle.survey.specs.declared.kept.Entry.{Entry}
-use Rattle.survey.specs.Kept.{consed, entryAt, keptOf}
+use Rattle.judging.specs.declared.kept.Entry.{Entry}
+use Rattle.judging.specs.Kept.{consed, entryAt, keptOf}
 
 abbrev made : ℕ → ℕ → ℕ → ℕ → Entry
 made id t f l = elim (eqb t id) [ true ↦ Entry.Span f l | false ↦ Entry.Other ]

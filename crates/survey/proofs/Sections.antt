@@ -16,29 +16,29 @@ use Rattle.layout.specs.State as St
 use Rattle.layout.specs.Keeps as Keeps
 use Rattle.layout.specs.Sections as S
 use Rattle.layout.specs.Sections.{bodyOf, otherOf}
-use Rattle.survey.specs.declared.step.Bad.{Bad}
-use Rattle.survey.specs.declared.step.Past.{Past}
-use Rattle.survey.specs.declared.step.Close.{Close}
-use Rattle.survey.specs.declared.step.Num.{Num}
-use Rattle.survey.specs.declared.head.Kind.{Kind}
-use Rattle.survey.specs.declared.head.Head.{Head}
-use Rattle.survey.specs.declared.head.Header.{Header}
-use Rattle.survey.specs.declared.head.Fifth.{Fifth}
-use Rattle.survey.specs.declared.listed.Limit.{Limit}
-use Rattle.survey.specs.declared.judge.Seen.{Seen}
-use Rattle.survey.specs.declared.judge.State.{State}
-use Rattle.survey.specs.declared.judge.Room.{Room}
-use Rattle.survey.specs.declared.judge.Judged.{Judged}
+use Rattle.steps.specs.declared.step.Bad.{Bad}
+use Rattle.steps.specs.declared.step.Past.{Past}
+use Rattle.steps.specs.declared.step.Close.{Close}
+use Rattle.steps.specs.declared.step.Num.{Num}
+use Rattle.steps.specs.declared.head.Kind.{Kind}
+use Rattle.steps.specs.declared.head.Head.{Head}
+use Rattle.steps.specs.declared.head.Header.{Header}
+use Rattle.steps.specs.declared.head.Fifth.{Fifth}
+use Rattle.judging.specs.declared.listed.Limit.{Limit}
+use Rattle.judging.specs.declared.judge.Seen.{Seen}
+use Rattle.judging.specs.declared.judge.State.{State}
+use Rattle.judging.specs.declared.judge.Room.{Room}
+use Rattle.judging.specs.declared.judge.Judged.{Judged}
 use Rattle.survey.specs.declared.section.Met.{Met}
 use Rattle.survey.specs.declared.section.Sect.{Sect}
-use Rattle.survey.specs.Views.{pastView, PastAt, CloseAt, NumAt}
-use Rattle.survey.specs.Heads.{kindFor, fifthFor, headFor, headView, HeadAt}
-use Rattle.survey.specs.Bodies.{forget, LooseAt}
-use Rattle.survey.specs.Kept.{keptOf}
-use Rattle.survey.specs.Judging.{dimWordFor, seenOf, roomOf, idFor, declJudged, partJudged, countFor}
+use Rattle.steps.specs.Views.{pastView, PastAt, CloseAt, NumAt}
+use Rattle.steps.specs.Heads.{kindFor, fifthFor, headFor, headView, HeadAt}
+use Rattle.bodies.specs.Bodies.{forget, LooseAt}
+use Rattle.judging.specs.Kept.{keptOf}
+use Rattle.judging.specs.Judging.{dimWordFor, seenOf, roomOf, idFor, declJudged, partJudged, countFor}
 use Rattle.survey.specs.Sections.{Outline, outlined, metFor, sectView, SectAhead, SectAt, settle, clearFor, gate, ended, twoJudged, twoEnd}
-use Rattle.survey.proofs.Chain.{past-no, past-to, past-ahead, close-no, close-to, close-ahead, num-no, num-to, num-ahead}
-use Rattle.survey.proofs.Loose.{loose-is}
+use Rattle.steps.proofs.Chain.{past-no, past-to, past-ahead, close-no, close-to, close-ahead, num-no, num-to, num-ahead}
+use Rattle.bodies.proofs.Loose.{loose-is}
 use Rattle.survey.proofs.Gates.{Test, gotOf, gates}
 
 later : (s : List ℕ) (at n : ℕ) (r : Sect) → at ≤ n → SectAhead n s r → SectAhead at s r

@@ -6,13 +6,13 @@ use lib.Dec.{ltb}
 use lib.ListN.{set}
 use Rattle.sizes.specs.Sizes.{zones}
 use Rattle.layout.specs.State.{dimAfter}
-use Rattle.survey.specs.declared.head.Kind.{Kind}
-use Rattle.survey.specs.declared.head.Head.{Head}
-use Rattle.survey.specs.declared.judge.Seen.{Seen}
-use Rattle.survey.specs.declared.judge.State.{State}
+use Rattle.steps.specs.declared.head.Kind.{Kind}
+use Rattle.steps.specs.declared.head.Head.{Head}
+use Rattle.judging.specs.declared.judge.Seen.{Seen}
+use Rattle.judging.specs.declared.judge.State.{State}
 use Rattle.survey.specs.declared.section.Met.{Met}
-use Rattle.survey.specs.Heads.{fifthFor}
-use Rattle.survey.specs.Judging.{dimWordFor, idFor}
+use Rattle.steps.specs.Heads.{fifthFor}
+use Rattle.judging.specs.Judging.{dimWordFor, idFor}
 
 -- one regular section more; there are never more than the limit
 abbrev pub more : ℕ → ℕ

@@ -13,20 +13,20 @@ use Rattle.layout.specs.State as St
 use Rattle.layout.specs.State.{every, clear, dimAfter, dimListed, dimAgrees}
 use Rattle.layout.specs.Reading.{Got, got, bad, Reader, next, _>>=_, _>>_, pure, check, choose, rightOf}
 use Rattle.layout.specs.Sections.{headerOf, bodyOf, twoOf, kindOf, otherOf}
-use Rattle.survey.specs.declared.step.Bad.{Bad}
-use Rattle.survey.specs.declared.head.Kind.{Kind}
-use Rattle.survey.specs.declared.head.Fifth.{Fifth}
-use Rattle.survey.specs.declared.head.Head.{Head}
-use Rattle.survey.specs.declared.judge.Seen.{Seen}
-use Rattle.survey.specs.declared.judge.State.{State}
-use Rattle.survey.specs.declared.judge.Room.{Room}
-use Rattle.survey.specs.declared.judge.Judged.{Judged}
+use Rattle.steps.specs.declared.step.Bad.{Bad}
+use Rattle.steps.specs.declared.head.Kind.{Kind}
+use Rattle.steps.specs.declared.head.Fifth.{Fifth}
+use Rattle.steps.specs.declared.head.Head.{Head}
+use Rattle.judging.specs.declared.judge.Seen.{Seen}
+use Rattle.judging.specs.declared.judge.State.{State}
+use Rattle.judging.specs.declared.judge.Room.{Room}
+use Rattle.judging.specs.declared.judge.Judged.{Judged}
 use Rattle.survey.specs.declared.section.Met.{Met}
 use Rattle.survey.specs.declared.section.Sect.{Sect}
-use Rattle.survey.specs.Heads.{kindFor, fifthFor, headFor}
-use Rattle.survey.specs.Bodies.{forget}
-use Rattle.survey.specs.Kept.{keptOf}
-use Rattle.survey.specs.Judging.{limitFor, dimWordFor, agrees, idFor, test, countFor}
+use Rattle.steps.specs.Heads.{kindFor, fifthFor, headFor}
+use Rattle.bodies.specs.Bodies.{forget}
+use Rattle.judging.specs.Kept.{keptOf}
+use Rattle.judging.specs.Judging.{limitFor, dimWordFor, agrees, idFor, test, countFor}
 
 -- an item without its body
 pub data Outline : Type 0 where

@@ -6,16 +6,17 @@ ghost use Prim.Native.Nat.{_≤_};
 ghost use Rattle.sizes.specs.Sizes.{fileBytes, zones};
 ghost use Rattle.tokens.specs.Listed.{tokensFrom};
 ghost use Rattle.layout.specs.Read.{endOf, tokensAnswer, answerOf};
+ghost use Rattle.layout.specs.Replies.{shown};
 ghost use Rattle.survey.specs.Sections.{stateFor, roomAll};
 ghost use Rattle.survey.specs.Files.{verdict, closing, lastOf};
-use super::judge::Room;
-use super::judge::Seen;
-use super::judge::State;
-use super::kept::is_tiled;
 use super::note::keep;
 use super::note::noted;
 use super::section::Sect;
 use super::section::section_at;
+use judging::Room;
+use judging::Seen;
+use judging::State;
+use judging::is_tiled;
 use layout::Refusal;
 use layout::Reply;
 use tokens::Cursor;
@@ -147,7 +148,7 @@ fn file_from(s: &[u8], room: Room, ids: &mut [u32], firsts: &mut [u32], lasts: &
 
 // Judges a file: what reading it into tables with this room answers. No table is touched.
 pub fn survey(s: &[u8], room: Room) -> Reply
-    ensures { λ r. ⌜ r ≡ verdict (answerOf (roomAll room) (now (s .entry))) ⌝ }
+    ensures { λ r. ⌜ shown r ≡ shown (verdict (answerOf (roomAll room) (now (s .entry)))) ⌝ }
 {
     if sizes::FILE_BYTES < s.len() {
         return refused(Refusal::TooLong, 0, 0);

@@ -2,14 +2,15 @@
 ghost use mathlib.Core.Path.{_≡_};
 ghost use lib.ListN.{set};
 ghost use Rattle.survey.specs.Noting.{more, withSeen, withDim, dimWith, noteState, noteId, noteFirst, noteLast};
-use super::head::Head;
-use super::head::Kind;
-use super::judge::Seen;
-use super::judge::State;
-use super::judge::id_of;
-use super::listed::dim_after;
-use super::listed::dim_word;
 use super::section::Met;
+use judging::Seen;
+use judging::State;
+use judging::dim_after;
+use judging::dim_word;
+use judging::id_of;
+use mesh::store;
+use steps::Head;
+use steps::Kind;
 
 fn more_of(z: u32) -> u32
     ensures { λ r. ⌜ r ≡ more z ⌝ }
@@ -93,14 +94,6 @@ pub(crate) fn noted(x: State, met: Met) -> State
             with_dim(x, dim, zones)
         }
         Met::Other => x,
-    }
-}
-
-fn store(w: &mut [u32], i: usize, v: u32)
-    ensures { λ _. ⌜ now (w .exit) ≡ set (now (w .entry)) i v ⌝ }
-{
-    if i < w.len() {
-        w[i] = v;
     }
 }
 

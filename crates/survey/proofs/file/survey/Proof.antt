@@ -1,3 +1,5 @@
+use mathlib.Core.Path.{ap}
+use Rattle.layout.specs.Replies.{shown}
 use Rattle.survey.proofs.Closing.{too-long, not-too-long}
 use Rattle.survey.specs.Sections.{roomAll}
 use borrow.Author.Needs.{needs}
@@ -13,7 +15,7 @@ refused-requires : tie.Need-refused-requires
 refused-requires c κs = search needs
 
 returns : tie.Need-returns
-returns c = too-long (c .before .before .before .args .s .now) (roomAll (c .before .before .before .args .room)) (c .before .if1 .taken) (c .refused .ensures)
+returns c = ap shown (too-long (c .before .before .before .args .s .now) (roomAll (c .before .before .before .args .room)) (c .before .if1 .taken) (c .refused .ensures))
 
 slice-aggregate-file-from : tie.Need-slice-aggregate-file-from
 slice-aggregate-file-from c = search needs
@@ -28,7 +30,7 @@ file-from-requires : tie.Need-file-from-requires
 file-from-requires c κs = search needs
 
 returns-2 : tie.Need-returns-2
-returns-2 c = not-too-long (c .before .before .before .before .before .before .before .before .before .args .s .now) (roomAll (c .before .before .before .before .before .before .before .before .before .args .room)) (c .before .before .before .before .before .before .before .if1 .left) (c .before .before .before .file-from .ensures)
+returns-2 c = ap shown (not-too-long (c .before .before .before .before .before .before .before .before .before .args .s .now) (roomAll (c .before .before .before .before .before .before .before .before .before .args .room)) (c .before .before .before .before .before .before .before .if1 .left) (c .before .before .before .file-from .ensures))
 
 pub survey-spec : {M : Type 1} → statement M
 survey-spec =

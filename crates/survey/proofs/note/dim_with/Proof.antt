@@ -5,8 +5,8 @@ use Rattle.survey.proofs.note.dim_with.Statement.{statement}
 use Rattle.survey.proofs.note.dim_with.Tie as tie
 use Rattle.survey.proofs.note.dim_with.Reads as reads
 use Rattle.survey.proofs.note.dim_with.Lts as lts
-use Rattle.survey.proofs.listed.dim_after.Reads as dim-after-reads
-use Rattle.survey.proofs.listed.dim_word.Reads as dim-word-reads
+use Rattle.judging.proofs.dim_after.Reads as dim-after-reads
+use Rattle.judging.proofs.dim_word.Reads as dim-word-reads
 
 dim-word-requires : tie.Need-dim-word-requires
 dim-word-requires c κs = search needs

@@ -5,7 +5,7 @@ use Rattle.survey.proofs.note.keep.Statement.{statement}
 use Rattle.survey.proofs.note.keep.Tie as tie
 use Rattle.survey.proofs.note.keep.Reads as reads
 use Rattle.survey.proofs.note.keep.Lts as lts
-use Rattle.survey.proofs.judge.id_of.Reads as id-of-reads
+use Rattle.judging.proofs.id_of.Reads as id-of-reads
 use Rattle.survey.proofs.note.keep_in.Reads as keep-in-reads
 
 enum-told : tie.Need-enum-told

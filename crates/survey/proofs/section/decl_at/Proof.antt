@@ -1,5 +1,5 @@
 use Rattle.survey.proofs.Sections.{gate-no, gate-fine}
-use Rattle.survey.specs.Judging.{seenOf, declJudged}
+use Rattle.judging.specs.Judging.{seenOf, declJudged}
 use Rattle.survey.proofs.Sections.{decl-as}
 use borrow.Author.Needs.{needs}
 use native.Mathlib.Omega.{arith}
@@ -7,9 +7,9 @@ use Rattle.survey.proofs.section.decl_at.Statement.{statement}
 use Rattle.survey.proofs.section.decl_at.Tie as tie
 use Rattle.survey.proofs.section.decl_at.Reads as reads
 use Rattle.survey.proofs.section.decl_at.Lts as lts
-use Rattle.survey.proofs.judge.decl_judged.Reads as decl-judged-reads
-use Rattle.survey.proofs.judge.room_of.Reads as room-of-reads
-use Rattle.survey.proofs.judge.seen_of.Reads as seen-of-reads
+use Rattle.judging.proofs.decl_judged.Reads as decl-judged-reads
+use Rattle.judging.proofs.room_of.Reads as room-of-reads
+use Rattle.judging.proofs.seen_of.Reads as seen-of-reads
 use Rattle.survey.proofs.section.end_at.Reads as end-at-reads
 
 seen-of-requires : tie.Need-seen-of-requires

@@ -5,7 +5,7 @@ use Rattle.survey.proofs.section.end_at.Statement.{statement}
 use Rattle.survey.proofs.section.end_at.Tie as tie
 use Rattle.survey.proofs.section.end_at.Reads as reads
 use Rattle.survey.proofs.section.end_at.Lts as lts
-use Rattle.survey.proofs.step.right_at.Reads as right-at-reads
+use Rattle.steps.proofs.right_at.Reads as right-at-reads
 
 right-at-requires : tie.Need-right-at-requires
 right-at-requires c κs = search needs

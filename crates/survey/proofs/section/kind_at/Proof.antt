@@ -6,7 +6,7 @@ use Rattle.survey.proofs.section.kind_at.Statement.{statement}
 use Rattle.survey.proofs.section.kind_at.Tie as tie
 use Rattle.survey.proofs.section.kind_at.Reads as reads
 use Rattle.survey.proofs.section.kind_at.Lts as lts
-use Rattle.survey.proofs.head.head_at.Reads as head-at-reads
+use Rattle.steps.proofs.head_at.Reads as head-at-reads
 use Rattle.survey.proofs.section.behind_head.Reads as behind-head-reads
 
 head-at-requires : tie.Need-head-at-requires

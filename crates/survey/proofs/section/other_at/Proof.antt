@@ -5,7 +5,7 @@ use Rattle.survey.proofs.section.other_at.Statement.{statement}
 use Rattle.survey.proofs.section.other_at.Tie as tie
 use Rattle.survey.proofs.section.other_at.Reads as reads
 use Rattle.survey.proofs.section.other_at.Lts as lts
-use Rattle.survey.proofs.skip.skip_from.Reads as skip-from-reads
+use Rattle.steps.proofs.skip_from.Reads as skip-from-reads
 
 skip-from-requires : tie.Need-skip-from-requires
 skip-from-requires c κs = search needs

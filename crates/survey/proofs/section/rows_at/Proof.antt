@@ -2,8 +2,8 @@ use Rattle.survey.specs.declared.section.Met.{Met}
 use Rattle.survey.proofs.Sections.{body-as}
 use Rattle.survey.proofs.Sections.{rows-no, rows-to}
 use Rattle.survey.specs.Sections.{ended}
-use Rattle.survey.specs.Bodies.{forget}
-use Rattle.survey.specs.Heads.{kindFor, fifthFor}
+use Rattle.bodies.specs.Bodies.{forget}
+use Rattle.steps.specs.Heads.{kindFor, fifthFor}
 use Rattle.layout.specs.Sections.{bodyOf}
 use Rattle.layout.specs.State.{dimAfter}
 use mathlib.Core.Path.{_≡_, _∙_, ap}
@@ -13,10 +13,10 @@ use Rattle.survey.proofs.section.rows_at.Statement.{statement}
 use Rattle.survey.proofs.section.rows_at.Tie as tie
 use Rattle.survey.proofs.section.rows_at.Reads as reads
 use Rattle.survey.proofs.section.rows_at.Lts as lts
-use Rattle.survey.proofs.bodies.body_at.Reads as body-at-reads
-use Rattle.survey.proofs.judge.count_of.Reads as count-of-reads
-use Rattle.survey.proofs.listed.dim_after.Reads as dim-after-reads
-use Rattle.survey.proofs.listed.dim_word.Reads as dim-word-reads
+use Rattle.bodies.proofs.body_at.Reads as body-at-reads
+use Rattle.judging.proofs.count_of.Reads as count-of-reads
+use Rattle.judging.proofs.dim_after.Reads as dim-after-reads
+use Rattle.judging.proofs.dim_word.Reads as dim-word-reads
 use Rattle.survey.proofs.section.end_at.Reads as end-at-reads
 
 dim-word-requires : tie.Need-dim-word-requires

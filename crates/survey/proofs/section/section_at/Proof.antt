@@ -8,7 +8,7 @@ use Rattle.survey.proofs.section.section_at.Reads as reads
 use Rattle.survey.proofs.section.section_at.Lts as lts
 use Rattle.survey.proofs.section.by_id.Reads as by-id-reads
 use Rattle.survey.proofs.section.is_text.Reads as is-text-reads
-use Rattle.survey.proofs.step.number_at.Reads as number-at-reads
+use Rattle.steps.proofs.number_at.Reads as number-at-reads
 
 number-at-requires : tie.Need-number-at-requires
 number-at-requires c κs = search needs

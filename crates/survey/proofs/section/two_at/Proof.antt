@@ -7,7 +7,7 @@ use Rattle.survey.proofs.section.two_at.Tie as tie
 use Rattle.survey.proofs.section.two_at.Reads as reads
 use Rattle.survey.proofs.section.two_at.Lts as lts
 use Rattle.survey.proofs.section.two_end.Reads as two-end-reads
-use Rattle.survey.proofs.step.number_at.Reads as number-at-reads
+use Rattle.steps.proofs.number_at.Reads as number-at-reads
 
 number-at-requires : tie.Need-number-at-requires
 number-at-requires c κs = search needs

@@ -9,7 +9,7 @@ use Rattle.survey.proofs.section.two_end.Reads as reads
 use Rattle.survey.proofs.section.two_end.Lts as lts
 use Rattle.survey.proofs.section.settled.Reads as settled-reads
 use Rattle.survey.proofs.section.two_judged.Reads as two-judged-reads
-use Rattle.survey.proofs.step.right_at.Reads as right-at-reads
+use Rattle.steps.proofs.right_at.Reads as right-at-reads
 
 right-at-requires : tie.Need-right-at-requires
 right-at-requires c κs = search needs

@@ -1,4 +1,4 @@
-use Rattle.survey.proofs.Judging.{test-is}
+use Rattle.judging.proofs.Judging.{test-is}
 use mathlib.Core.Path.{_≡_, refl, _∙_}
 use borrow.Author.Needs.{needs}
 use native.Mathlib.Omega.{arith}
@@ -6,9 +6,9 @@ use Rattle.survey.proofs.section.two_judged.Statement.{statement}
 use Rattle.survey.proofs.section.two_judged.Tie as tie
 use Rattle.survey.proofs.section.two_judged.Reads as reads
 use Rattle.survey.proofs.section.two_judged.Lts as lts
-use Rattle.survey.proofs.judge.unless.Reads as unless-reads
-use Rattle.survey.proofs.listed.dim_agrees.Reads as dim-agrees-reads
-use Rattle.survey.proofs.listed.dim_listed.Reads as dim-listed-reads
+use Rattle.judging.proofs.unless.Reads as unless-reads
+use Rattle.judging.proofs.dim_agrees.Reads as dim-agrees-reads
+use Rattle.judging.proofs.dim_listed.Reads as dim-listed-reads
 
 dim-agrees-requires : tie.Need-dim-agrees-requires
 dim-agrees-requires c κs = search needs

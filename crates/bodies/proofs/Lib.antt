@@ -1,0 +1,3 @@
+pub mod Forgotten
+pub mod Loose
+pub mod Shapes

@@ -1,0 +1,183 @@
+// Bodies: rows of words, judged and not kept. One loop for words and one for rows, whatever they are.
+ghost use lib.ListN.{length};
+ghost use Rattle.tokens.specs.Listed.{tokensFrom};
+ghost use mathlib.Core.Path.{_≡_};
+ghost use mathlib.Core.Bool.{_&&_};
+ghost use lib.Dec.{leb};
+ghost use Rattle.layout.specs.Reading.{rowsOf};
+ghost use Rattle.layout.specs.Sections.{elementOf, facingOf, mixedOf};
+ghost use Rattle.steps.specs.Views.{NumAt};
+ghost use Rattle.bodies.specs.Bodies.{LooseAt, forget, pastOf, wordUnit, listedOf, rowUnit};
+use layout::Refusal;
+use numbers::Sort;
+use steps::Bad;
+use steps::Num;
+use steps::Pair;
+use steps::Past;
+use steps::number_at;
+use steps::pair_at;
+
+pub enum Word {
+    Hex,
+    Decimal,
+}
+
+pub enum Row {
+    Element,
+    Facing(u32),
+    Mixed,
+    Point(u32),
+}
+
+fn past_of(n: Num) -> Past
+    ensures { λ r. ⌜ r ≡ pastOf n ⌝ }
+{
+    match n {
+        Num::No(bad) => Past::No(bad),
+        Num::Is {
+            value: _,
+            start: _,
+            next,
+        } => Past::To(next),
+    }
+}
+
+fn hex_past(s: &[u8], at: usize) -> Past
+    ensures { λ r. ⌜ LooseAt (now (s .entry)) at r (wordUnit (length (now (s .entry))) Word.Hex (tokensFrom (now (s .entry)) at)) ⌝ }
+{
+    let n = number_at(s, at, Sort::Hexadecimal);
+    past_of(n)
+}
+
+fn decimal_past(s: &[u8], at: usize) -> Past
+    ensures { λ r. ⌜ LooseAt (now (s .entry)) at r (wordUnit (length (now (s .entry))) Word.Decimal (tokensFrom (now (s .entry)) at)) ⌝ }
+{
+    let p = pair_at(s, at);
+    match p {
+        Pair::No(bad) => Past::No(bad),
+        Pair::Is {
+            mantissa: _,
+            exponent: _,
+            next,
+        } => Past::To(next),
+    }
+}
+
+fn word_past(s: &[u8], at: usize, word: Word) -> Past
+    ensures { λ r. ⌜ LooseAt (now (s .entry)) at r (wordUnit (length (now (s .entry))) word (tokensFrom (now (s .entry)) at)) ⌝ }
+{
+    match word {
+        Word::Hex => hex_past(s, at),
+        Word::Decimal => decimal_past(s, at),
+    }
+}
+
+// n words one behind the other.
+fn words_past(s: &[u8], at: usize, word: Word, n: u32) -> Past
+    ensures { λ r. ⌜ LooseAt (now (s .entry)) at r (forget (rowsOf (length (now (s .entry))) (wordUnit (length (now (s .entry))) word) n (tokensFrom (now (s .entry)) at))) ⌝ }
+{
+    let mut c = at;
+    let mut left = n;
+    while 0 < left {
+        match word_past(s, c, word) {
+            Past::No(bad) => {
+                return Past::No(bad);
+            }
+            Past::To(next) => {
+                c = next;
+                left -= 1;
+            }
+        }
+    }
+    Past::To(c)
+}
+
+fn between(lo: u32, v: u32, hi: u32) -> bool
+    ensures { λ r. ⌜ r ≡ (leb lo v && leb v hi) ⌝ }
+{
+    lo <= v && v <= hi
+}
+
+// A word that counts something: Type where no such count is listed.
+fn listed_at(s: &[u8], at: usize, lo: u32, hi: u32) -> Num
+    ensures { λ r. ⌜ NumAt (now (s .entry)) at r (listedOf (length (now (s .entry))) lo hi (tokensFrom (now (s .entry)) at)) ⌝ }
+{
+    let n = number_at(s, at, Sort::Hexadecimal);
+    match n {
+        Num::No(bad) => Num::No(bad),
+        Num::Is { value, start, next } => {
+            let listed = between(lo, value, hi);
+            if listed {
+                Num::Is { value, start, next }
+            } else {
+                Num::No(Bad {
+                    why: Refusal::Type,
+                    offset: start,
+                })
+            }
+        }
+    }
+}
+
+fn element_past(s: &[u8], at: usize) -> Past
+    ensures { λ r. ⌜ LooseAt (now (s .entry)) at r (forget (elementOf (length (now (s .entry))) (tokensFrom (now (s .entry)) at))) ⌝ }
+{
+    let n = listed_at(s, at, 1, 6);
+    past_of(n)
+}
+
+// n nodes, the right cell, the left cell.
+fn facing_past(s: &[u8], at: usize, n: u32) -> Past
+    ensures { λ r. ⌜ LooseAt (now (s .entry)) at r (forget (facingOf (length (now (s .entry))) n (tokensFrom (now (s .entry)) at))) ⌝ }
+{
+    let p = words_past(s, at, Word::Hex, n);
+    match p {
+        Past::No(bad) => Past::No(bad),
+        Past::To(c) => words_past(s, c, Word::Hex, 2),
+    }
+}
+
+fn mixed_past(s: &[u8], at: usize) -> Past
+    ensures { λ r. ⌜ LooseAt (now (s .entry)) at r (forget (mixedOf (length (now (s .entry))) (tokensFrom (now (s .entry)) at))) ⌝ }
+{
+    let n = listed_at(s, at, 2, 4);
+    match n {
+        Num::No(bad) => Past::No(bad),
+        Num::Is {
+            value,
+            start: _,
+            next,
+        } => facing_past(s, next, value),
+    }
+}
+
+fn row_past(s: &[u8], at: usize, row: Row) -> Past
+    ensures { λ r. ⌜ LooseAt (now (s .entry)) at r (rowUnit (length (now (s .entry))) row (tokensFrom (now (s .entry)) at)) ⌝ }
+{
+    match row {
+        Row::Element => element_past(s, at),
+        Row::Facing(n) => facing_past(s, at, n),
+        Row::Mixed => mixed_past(s, at),
+        Row::Point(d) => words_past(s, at, Word::Decimal, d),
+    }
+}
+
+// n rows one behind the other.
+pub(crate) fn rows_past(s: &[u8], at: usize, row: Row, n: u32) -> Past
+    ensures { λ r. ⌜ LooseAt (now (s .entry)) at r (forget (rowsOf (length (now (s .entry))) (rowUnit (length (now (s .entry))) row) n (tokensFrom (now (s .entry)) at))) ⌝ }
+{
+    let mut c = at;
+    let mut left = n;
+    while 0 < left {
+        match row_past(s, c, row) {
+            Past::No(bad) => {
+                return Past::No(bad);
+            }
+            Past::To(next) => {
+                c = next;
+                left -= 1;
+            }
+        }
+    }
+    Past::To(c)
+}

@@ -1,0 +1,3 @@
+pub mod Listing
+pub mod Keeping
+pub mod Judging

@@ -1,0 +1,23 @@
+// Headers judged by what came before them: ranges, room, lists of types, the sections met so far.
+mod judge;
+mod kept;
+mod listed;
+
+pub use judge::Judged;
+pub use judge::Room;
+pub use judge::Seen;
+pub use judge::State;
+pub use judge::count_of;
+pub use judge::decl_judged;
+pub use judge::id_of;
+pub use judge::part_judged;
+pub use judge::room_of;
+pub use judge::seen_of;
+pub use judge::unless;
+pub use kept::is_clear;
+pub use kept::is_tiled;
+pub use listed::Limit;
+pub use listed::dim_after;
+pub use listed::dim_agrees;
+pub use listed::dim_listed;
+pub use listed::dim_word;

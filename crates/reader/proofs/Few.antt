@@ -1,0 +1,72 @@
+-- How many zone records reading finds: no more than a file may have sections, and no more than there is room for. So the records as numbers, laid into the list, are what reading leaves there. Assumes nothing.
+use Prim.Native.Nat.{ℕ, zero, suc, _+_, _≤_, _<_, zero-le}
+use native.Mathlib.Omega.{arith}
+use mathlib.Core.Path.{_≡_, refl, sym, _∙_, ap, subst}
+use mathlib.Core.List.{List, [], _∷_}
+use lib.ListN.{length}
+use Rattle.sizes.specs.Sizes.{zones}
+use Rattle.tokens.specs.Listed.{tokensFrom}
+use Rattle.layout.specs.Items.{Item, dim, decl, part, other}
+use Rattle.layout.specs.Keeps.{Room, Limit, most, Within, partsIn}
+use Rattle.layout.specs.Rows.{Lent, roomOf, zonesOf}
+use Rattle.layout.specs.State.{State, start, afterAll}
+use Rattle.layout.specs.Read.{Answer, accepted, refused, answerOf, resultOf, readOf}
+use Rattle.layout.proofs.Each.{laid-seen}
+use Rattle.layout.proofs.Room.{laid-has-room}
+use Rattle.layout.proofs.Accepts.{laid-of, stated}
+use Rattle.layout.proofs.Exactly.{zones-length}
+use Rattle.layout.proofs.Shown.{shown-only}
+use Rattle.reader.specs.Found.{Tables, Core, Told, told, roomWith, coreBy, coreOf}
+use Rattle.reader.specs.Passing.{AllFit}
+use Rattle.reader.proofs.Through.{tablesIn, withZones, throughCore}
+use Rattle.reader.proofs.Cored.{all-fit}
+use Rattle.reader.proofs.Zoned.{zoned-accepted, zoned-refused}
+
+pub told-only : (a b : Core) → told a ≡ told b → a ≡ b
+told-only a b e =
+    let p = shown-only (a .found .reply) (b .found .reply) (ap (λ (y : Told). y .shown) e) in
+    let q = ap (λ (y : Told). y .zones) e in
+    let r = ap (λ (y : Told). y .flat) e in
+    let s = ap (λ (y : Told). y .held) e in
+    λ i. record { found = record { reply = p i; zones = q i; flat = r i }; held = s i }
+
+parts-few : (d z : ℕ) (is : List Item) → z ≤ zones → AllFit d z is → z + partsIn is ≤ zones
+parts-few d z [] l f = omega arith
+parts-few d z (dim n ∷ is) l f = omega (arith, parts-few d (z + 0) is (omega arith) (f .1))
+parts-few d z (decl k h ∷ is) l f = omega (arith, parts-few d (z + 0) is (omega arith) (f .1))
+parts-few d z (part k h b ∷ is) l f = omega (arith, parts-few d (z + 1) is (omega (arith, f .0 .few)) (f .1))
+parts-few d z (other ∷ is) l f = omega (arith, parts-few d (z + 0) is (omega arith) (f .1))
+
+module _ (room : Room) (s : List ℕ) (x : State) (is : List Item) (e : answerOf room s ≡ accepted x is) where
+  pub zones-are : x .zones ≡ partsIn is
+  zones-are = ap (λ (y : State). y .zones) (stated room s x is e) ∙ laid-seen room (laid-of room s x is e .laid) .zones
+
+  few-zones : partsIn is ≤ zones
+  few-zones = let l = laid-of room s x is e in omega (arith, parts-few _ 0 is zero-le (all-fit room (l .tokens) is (l .laid) [] is refl))
+
+  roomy-zones : (n : ℕ) → room .zones ≡ most n → partsIn is ≤ n
+  roomy-zones n q = subst (λ y. Within y (partsIn is)) q (laid-has-room room (laid-of room s x is e .laid) .list)
+
+module _ (s : List ℕ) (n : ℕ) (t : Tables) where
+  few-by : (a : Answer) → answerOf (roomWith t n) s ≡ a → (coreBy a t .found .zones ≤ 64) × (coreBy a t .found .zones ≤ n)
+  few-by (accepted x is) e = (omega (arith, zones-are (roomWith t n) s x is e, few-zones (roomWith t n) s x is e), omega (arith, zones-are (roomWith t n) s x is e, roomy-zones (roomWith t n) s x is e n refl))
+  few-by (refused w k o) e = (zero-le, zero-le)
+
+  pub core-few : coreOf s n t .found .zones ≤ 64
+  unfolding coreOf
+  core-few = few-by (answerOf (roomWith t n) s) refl .0
+
+  pub core-room : coreOf s n t .found .zones ≤ n
+  unfolding coreOf
+  core-room = few-by (answerOf (roomWith t n) s) refl .1
+
+module _ (s : List ℕ) (l : Lent) where
+  through-by : (a : Answer) → answerOf (roomOf l) s ≡ a → withZones (coreBy a (tablesIn l)) (l .zones) ≡ resultOf a l
+  through-by (accepted x is) e =
+      zoned-accepted x is l (zones-are (roomOf l) s x is e ∙ sym (zones-length is)) (omega (arith, zones-length is, few-zones (roomOf l) s x is e))
+  through-by (refused w k o) e = zoned-refused w k o l
+
+  -- reading by way of the records as numbers is reading
+  pub through-is : throughCore s l ≡ readOf s l
+  unfolding coreOf readOf
+  through-is = through-by (answerOf (roomOf l) s) refl

@@ -1,0 +1,187 @@
+-- Rows of words: what each of the storing steps leaves. Assumes nothing.
+use Prim.Native.Nat.{ℕ, zero, suc, _+_, _-_, _*_, _^_, _≤_, _<_}
+use native.Mathlib.Omega.{arith}
+use mathlib.Core.Path.{_≡_, refl, sym, _∙_, ap, subst}
+use mathlib.Core.List.{List, [], _∷_, _++_, map}
+use mathlib.Core.Bool.{Bool, true, false, _&&_}
+use lib.Dec.{leb}
+use lib.ListN.{length, set, replicate, length-append}
+use lib.Seq.{sets}
+use Rattle.mesh.specs.Rows.{places}
+use Rattle.tokens.specs.Listed.{Tok, tokensFrom}
+use Rattle.layout.specs.declared.Refusal.{Refusal}
+use Rattle.layout.specs.Items.{Facet}
+use Rattle.layout.specs.Rows.{joined, pad, faceRow}
+use Rattle.layout.specs.Reading as R
+use Rattle.layout.specs.Reading.{Got, got, bad, Reader, next, pure, hexWord, rowsOf, enclosedOf, leftOf, rightOf}
+use Rattle.layout.specs.Sections.{hexOf, elementOf, facingOf, mixedOf}
+use Rattle.facts.proofs.Decides.{and-is, le-is}
+use Rattle.reader.specs.declared.rows.Form.{Form}
+use Rattle.reader.specs.Filling.{Then, Steps, mapped, rowRead, Placed, widthOf}
+use Rattle.layout.proofs.Formed.{pad-length}
+use Rattle.reader.proofs.Steps.{then-more, then-next, then-check, steps-more, steps-with, steps-next, steps-pure, rows-length}
+use Rattle.reader.proofs.Puts.{sets-behind, pad-is}
+use Rattle.reader.proofs.Rowing.{Going, Stored, going-start, going-more, going-end}
+
+-- ---- words
+pub none-set : (o : List ℕ) (k : ℕ) → sets o k [] ≡ o
+none-set o k = refl
+
+singles : (xs : List ℕ) → joined (map (λ v. v ∷ []) xs) ≡ xs
+singles [] = refl
+singles (x ∷ xs) = ap (λ r. x ∷ r) (singles xs)
+
+abbrev pub Wording : List ℕ → ℕ → ℕ → ℕ → List ℕ → ℕ → ℕ → ℕ → List ℕ → Type 0
+Wording s at n k old c left i cur = Going sets s (hexOf (length s)) (λ v. v ∷ []) 1 at n k old c left i cur
+
+module _ (s : List ℕ) (at n k : ℕ) (old : List ℕ) where
+  pub wording-start : Wording s at n k old at n k old
+  wording-start = going-start sets none-set sets-behind s (hexOf (length s)) (λ v. v ∷ []) 1 at n k old
+
+  module _ (c left i : ℕ) (cur : List ℕ) (g : Wording s at n k old c left i cur) where
+    always : (y : Got ℕ) → Then y (λ a us. _≡_ {A = ℕ} 1 1)
+    always (got a us) = refl
+    always (bad w o) = tt
+
+    pub wording-more : (c′ : ℕ) (cur′ : List ℕ) → 0 < left → Steps s c c′ (hexOf (length s) (tokensFrom s c)) (λ v. cur′ ≡ sets cur i (v ∷ []))
+        → Wording s at n k old c′ (left - 1) (i + 1) cur′
+    wording-more c′ cur′ l h = going-more sets none-set sets-behind s (hexOf (length s)) (λ v. v ∷ []) 1 at n k old c left i cur g c′ cur′ l h (always (hexOf (length s) (tokensFrom s c)))
+
+    pub wording-end : left ≤ 0 → Steps s at c (rowsOf (length s) (hexOf (length s)) n (tokensFrom s at)) (λ vs. cur ≡ sets old k vs)
+    wording-end l =
+        steps-more s at (rowsOf (length s) (hexOf (length s)) n (tokensFrom s at)) (λ vs e. e ∙ ap (sets old k) (singles vs))
+        (going-end sets none-set sets-behind s (hexOf (length s)) (λ v. v ∷ []) 1 at n k old c left i cur g l)
+
+-- ---- zeros
+abbrev pub naught : List ℕ
+naught = 0 ∷ []
+
+pub zeros-are : (n : ℕ) → joined (replicate n naught) ≡ replicate n 0
+zeros-are zero = refl
+zeros-are (suc n) = ap (λ r. 0 ∷ r) (zeros-are n)
+
+-- ---- single words and rows
+row-is : (n t k r l : ℕ) (ns old : List ℕ) → n ≤ places → length ns ≡ n
+    → set (set (set (sets (sets (set old k n) (k + 1) ns) (k + 1 + n) (replicate (4 - n) 0)) (k + 5) r) (k + 6) l) (k + 7) t
+    ≡ sets old k (faceRow places t (record { corners = ns; right = r; left = l }))
+row-is n t k r l ns old h e =
+    let a : sets (sets (set old k n) (k + 1) ns) (k + 1 + n) (replicate (4 - n) 0) ≡ sets (set old k n) (k + 1) (pad places 0 ns) =
+    sets-behind ns (replicate (4 - n) 0) (set old k n) (k + 1) (k + 1 + n) (ap (λ m. k + 1 + m) (sym e))
+    ∙ ap (λ m. sets (set old k n) (k + 1) (ns ++ replicate (4 - m) 0)) (sym e) ∙ ap (sets (set old k n) (k + 1)) (sym (pad-is places 0 ns (omega arith))) in
+    let b : k + 6 ≡ suc (k + 5) = omega arith in
+    let c : k + 7 ≡ suc (suc (k + 5)) = omega arith in
+    let d : k + 1 ≡ suc k = omega arith in
+    ap (λ o. set (set (set o (k + 5) r) (k + 6) l) (k + 7) t) a
+    ∙ ap (λ i. set (set (set (sets (set old k n) (k + 1) (pad places 0 ns)) (k + 5) r) i l) (k + 7) t) b
+    ∙ ap (λ i. set (set (set (sets (set old k n) (k + 1) (pad places 0 ns)) (k + 5) r) (suc (k + 5)) l) i t) c
+    ∙ sets-behind (pad places 0 ns) (r ∷ l ∷ t ∷ []) (set old k n) (k + 1) (k + 5) (omega (arith, pad-length places 0 ns))
+    ∙ ap (λ i. sets (set old k n) i (pad places 0 ns ++ (r ∷ l ∷ t ∷ []))) d
+    ∙ ap (λ m. sets (set old k m) (suc k) (pad places 0 ns ++ (r ∷ l ∷ t ∷ []))) (sym e)
+
+-- a row of two words
+pub two-put : (a t k : ℕ) (old mid : List ℕ) {new : List ℕ} → mid ≡ set old k a → new ≡ set mid (k + 1) t → new ≡ sets old k (a ∷ t ∷ [])
+two-put a t k old mid p q = let z : k + 1 ≡ suc k = omega arith in q ∙ ap (λ i. set mid i t) z ∙ ap (λ o. set o (suc k) t) p
+
+abbrev IsRow : List ℕ → List ℕ → ℕ → ℕ → Facet → Type 0
+IsRow new old k t x = new ≡ sets old k (faceRow places t x)
+
+module _ (s : List ℕ) (at : ℕ) where
+  pub word-put : (v to k : ℕ) (old : List ℕ) {new : List ℕ} → Steps s at to (hexOf (length s) (tokensFrom s at)) (λ x. v ≡ x) → new ≡ set old k v
+      → Steps s at to (hexOf (length s) (tokensFrom s at)) (λ x. new ≡ sets old k (x ∷ []))
+  word-put v to k old h e = steps-more s at (hexOf (length s) (tokensFrom s at)) (λ x p. e ∙ ap (set old k) p) h
+
+  pub element-put : (v to t k : ℕ) (old mid : List ℕ) {new : List ℕ} → Steps s at to (hexWord (length s) (tokensFrom s at)) (λ x. v ≡ x .value)
+      → mid ≡ set old k v → new ≡ set mid (k + 1) t
+      → Steps s at to (elementOf (length s) (tokensFrom s at)) (λ e. new ≡ sets old k (e ∷ t ∷ []))
+  unfolding elementOf
+  element-put v to t k old mid {new} h p q =
+      steps-next s at (hexWord (length s) (tokensFrom s at)) _ (λ e. new ≡ sets old k (e ∷ t ∷ [])) h (omega arith)
+      (λ x y. then-check (leb 1 (x .value) && leb (x .value) 6) Refusal.Type (x .at) (pure (x .value)) (tokensFrom s to) (λ e us. (new ≡ sets old k (e ∷ t ∷ [])) × (tokensFrom s to ≡ us))
+      (λ _. (two-put v t k old mid p q ∙ ap (λ e. sets old k (e ∷ t ∷ [])) y, refl)))
+
+  pub facing-put : (n t k c₁ c₂ to : ℕ) (old a b d e f : List ℕ) {new : List ℕ} → n ≤ places → a ≡ set old k n
+      → Steps s at c₁ (rowsOf (length s) (hexOf (length s)) n (tokensFrom s at)) (λ ns. b ≡ sets a (k + 1) ns)
+      → d ≡ sets b (k + 1 + n) (replicate (4 - n) 0)
+      → Steps s c₁ c₂ (hexOf (length s) (tokensFrom s c₁)) (λ v. e ≡ sets d (k + 5) (v ∷ []))
+      → Steps s c₂ to (hexOf (length s) (tokensFrom s c₂)) (λ v. f ≡ sets e (k + 6) (v ∷ []))
+      → new ≡ set f (k + 7) t
+      → Steps s at to (facingOf (length s) n (tokensFrom s at)) (λ x. new ≡ sets old k (faceRow places t x))
+  unfolding facingOf
+  facing-put n t k c₁ c₂ to old a b d e f {new} l p h₁ q h₂ h₃ w =
+      steps-next s at (rowsOf (length s) (hexOf (length s)) n (tokensFrom s at)) _ (IsRow new old k t)
+      (steps-with s at (rowsOf (length s) (hexOf (length s)) n (tokensFrom s at)) h₁ (rows-length (length s) (hexOf (length s)) n (tokensFrom s at)))
+      (omega (arith, h₂ .from, h₃ .from))
+      (λ ns y. steps-next s c₁ (hexOf (length s) (tokensFrom s c₁)) _ (IsRow new old k t) h₂ (h₃ .from)
+      (λ r z. steps-pure s c₂ (hexOf (length s) (tokensFrom s c₂)) (λ x. record { corners = ns; right = r; left = x }) (IsRow new old k t) h₃
+      (λ x u. w ∙ ap (λ o. set o (k + 7) t) (u ∙ ap (λ o. set o (k + 6) x) (z ∙ ap (λ o. set o (k + 5) r) (q ∙ ap (λ o. sets o (k + 1 + n) (replicate (4 - n) 0)) (y .0 ∙ ap (λ o. sets o (k + 1) ns) p))))
+      ∙ row-is n t k r x ns old l (y .1)) .says) .says)
+
+  pub mixed-put : (n m to t k : ℕ) (old : List ℕ) {new : List ℕ} → Steps s at m (hexWord (length s) (tokensFrom s at)) (λ x. n ≡ x .value)
+      → Steps s m to (facingOf (length s) n (tokensFrom s m)) (λ x. new ≡ sets old k (faceRow places t x))
+      → Steps s at to (mixedOf (length s) (tokensFrom s at)) (λ x. new ≡ sets old k (faceRow places t x))
+  unfolding mixedOf
+  mixed-put n m to t k old {new} h g =
+      steps-next s at (hexWord (length s) (tokensFrom s at)) _ (IsRow new old k t) h (g .from)
+      (λ x y. then-check (leb 2 (x .value) && leb (x .value) 4) Refusal.Type (x .at) (facingOf (length s) (x .value)) (tokensFrom s m) (λ f us. IsRow new old k t f × (tokensFrom s to ≡ us)) (λ _. rw y at (g .says)))
+
+  -- a count that no good file has
+  pub mixed-never : (n m : ℕ) (Q : Facet → Type 0) → Steps s at m (hexWord (length s) (tokensFrom s at)) (λ x. n ≡ x .value) → 4 < n
+      → Steps s at m (mixedOf (length s) (tokensFrom s at)) Q
+  unfolding mixedOf
+  mixed-never n m Q h l =
+      steps-next s at (hexWord (length s) (tokensFrom s at)) _ Q h (omega arith)
+      (λ x y. then-check (leb 2 (x .value) && leb (x .value) 4) Refusal.Type (x .at) (facingOf (length s) (x .value)) (tokensFrom s m) (λ f us. Q f × (tokensFrom s m ≡ us)) (λ b. absurd (let z = and-is (le-is 2 (x .value)) (le-is (x .value) 4) .0 b in omega (arith, z .1, y))))
+
+-- ---- rows of a form
+module _ (s : List ℕ) (at : ℕ) where
+  pub row-put : {A : Type 0} (r : Reader A) (f : A → List ℕ) (k to : ℕ) (old : List ℕ) {new : List ℕ} → Steps s at to (r (tokensFrom s at)) (λ x. new ≡ sets old k (f x))
+      → Steps s at to (mapped f r (tokensFrom s at)) (λ row. new ≡ sets old k row)
+  row-put r f k to old {new} h = steps-pure s at (r (tokensFrom s at)) f (λ row. new ≡ sets old k row) h (λ x p. p)
+
+  pub row-by : (form other : Form) → form ≡ other → (t to : ℕ) (Q : List ℕ → Type 0) → Steps s at to (rowRead (length s) other t (tokensFrom s at)) Q
+      → Steps s at to (rowRead (length s) form t (tokensFrom s at)) Q
+  row-by form other e t to Q h = subst (λ f. Steps s at to (rowRead (length s) f t (tokensFrom s at)) Q) (sym e) h
+
+pub placed-by : (form : Form) (n : ℕ) → form ≡ Form.Facing n → Placed form → n ≤ places
+placed-by form n e h = rw e at h
+
+mapped-then : {A : Type 0} (g : Got A) (f : A → List ℕ) (w : ℕ) → ((x : A) → length (f x) ≡ w) → Then (next g (λ a. pure (f a))) (λ row us. length row ≡ w)
+mapped-then (got a us) f w h = h a
+mapped-then (bad v o) f w h = tt
+
+face-width : (t : ℕ) (f : Facet) → length (faceRow places t f) ≡ 8
+face-width t f = rw length-append (omega (arith, pad-length places 0 (f .corners)))
+
+row-width : (size t : ℕ) (form : Form) (ts : List Tok) → Then (rowRead size form t ts) (λ row us. length row ≡ widthOf form)
+row-width size t (Form.Facing n) ts = mapped-then (facingOf size n ts) (faceRow places t) 8 (face-width t)
+row-width size t Form.Mixed ts = mapped-then (mixedOf size ts) (faceRow places t) 8 (face-width t)
+row-width size t Form.Element ts = mapped-then (elementOf size ts) (λ e. e ∷ t ∷ []) 2 (λ e. refl)
+
+abbrev pub Filing : List ℕ → Form → ℕ → ℕ → ℕ → ℕ → List ℕ → ℕ → ℕ → ℕ → List ℕ → Type 0
+Filing s form t at n k old c left i cur = Going sets s (rowRead (length s) form t) (λ row. row) (widthOf form) at n k old c left i cur
+
+-- the place of a row stays far below what a number holds
+pub row-room : (form : Form) (i left k n : ℕ) → i + widthOf form * left ≡ k + widthOf form * n → k ≤ 2 ^ 36 → n < 2 ^ 32 → (i ≤ 2 ^ 39) × (i + widthOf form < 2 ^ 64)
+row-room (Form.Facing m) i left k n e h l = (omega arith, omega arith)
+row-room Form.Mixed i left k n e h l = (omega arith, omega arith)
+row-room Form.Element i left k n e h l = (omega arith, omega arith)
+
+same-rows : (xs : List (List ℕ)) → joined (map (λ row. row) xs) ≡ joined xs
+same-rows [] = refl
+same-rows (x ∷ xs) = ap (λ r. x ++ r) (same-rows xs)
+
+module _ (s : List ℕ) (form : Form) (t at n k : ℕ) (old : List ℕ) where
+  pub filing-start : Filing s form t at n k old at n k old
+  filing-start = going-start sets none-set sets-behind s (rowRead (length s) form t) (λ row. row) (widthOf form) at n k old
+
+  module _ (c left i : ℕ) (cur : List ℕ) (g : Filing s form t at n k old c left i cur) where
+    pub filing-more : (c′ : ℕ) (cur′ : List ℕ) (w : ℕ) → w ≡ widthOf form → 0 < left → Steps s c c′ (rowRead (length s) form t (tokensFrom s c)) (λ row. cur′ ≡ sets cur i row)
+        → Filing s form t at n k old c′ (left - 1) (i + w) cur′
+    filing-more c′ cur′ w e l h =
+        subst (λ y. Filing s form t at n k old c′ (left - 1) (i + y) cur′) (sym e)
+        (going-more sets none-set sets-behind s (rowRead (length s) form t) (λ row. row) (widthOf form) at n k old c left i cur g c′ cur′ l h (row-width (length s) t form (tokensFrom s c)))
+
+    pub filing-end : left ≤ 0 → Steps s at c (rowsOf (length s) (rowRead (length s) form t) n (tokensFrom s at)) (λ xs. cur ≡ sets old k (joined xs))
+    filing-end l =
+        steps-more s at (rowsOf (length s) (rowRead (length s) form t) n (tokensFrom s at)) (λ xs e. e ∙ ap (sets old k) (same-rows xs))
+        (going-end sets none-set sets-behind s (rowRead (length s) form t) (λ row. row) (widthOf form) at n k old c left i cur g l)

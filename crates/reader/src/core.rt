@@ -1,0 +1,93 @@
+// The whole reader, with the zone records as numbers: the file is judged, and only then are its rows written.
+ghost use Prim.Native.Nat.{min};
+ghost use mathlib.Core.Path.{_≡_};
+ghost use Rattle.layout.specs.Replies.{shown};
+ghost use Rattle.reader.specs.Found.{Tables, Told, told, roomFrom, coordinatesIn, coreOf};
+use super::fill::fill_tables;
+use judging::Limit;
+use judging::Room;
+use layout::Reply;
+use mesh::CELL_WORDS;
+use mesh::FACE_WORDS;
+use mesh::NODE_WORDS;
+
+// The answer, the number of zone records, and the records: section id, zone, first, last, type, element of each, one behind the other.
+pub struct Found {
+    pub reply: Reply,
+    pub zones: usize,
+    pub flat: [u32; 384],
+}
+
+fn least(a: usize, b: usize) -> usize
+    ensures { λ r. ⌜ r ≡ min a b ⌝ }
+{
+    if a < b { a } else { b }
+}
+
+// Whole rows in slices of these lengths. Nodes have two slices: the smaller number of rows counts.
+fn room_for(mantissas: usize, exponents: usize, faces: usize, cells: usize, zones: usize) -> Room
+    ensures { λ r. ⌜ r ≡ roomFrom mantissas exponents faces cells zones ⌝ }
+{
+    let nodes = least(mantissas / NODE_WORDS, exponents / NODE_WORDS);
+    Room {
+        nodes: Limit::Most(nodes),
+        cells: Limit::Most(cells / CELL_WORDS),
+        faces: Limit::Most(faces / FACE_WORDS),
+        zones: Limit::Most(zones),
+    }
+}
+
+fn coordinates_in(dim: u32) -> u32
+    ensures { λ r. ⌜ r ≡ coordinatesIn dim ⌝ }
+{
+    if dim < 3 { dim } else { 3 }
+}
+
+// Reads a file into lent tables, with room for so many zone records.
+pub fn read_flat(
+    s: &[u8],
+    mantissas: &mut [i64],
+    exponents: &mut [i32],
+    faces: &mut [u32],
+    cells: &mut [u32],
+    room: usize,
+) -> Found
+    ensures { λ r. ⌜ _≡_ {A = Told} (record { shown = shown (r .reply); zones = r .zones; flat = r .flat; held = record { mantissas = now (mantissas .exit); exponents = now (exponents .exit); faces = now (faces .exit); cells = now (cells .exit) } }) (told (coreOf (now (s .entry)) room (record { mantissas = now (mantissas .entry); exponents = now (exponents .entry); faces = now (faces .entry); cells = now (cells .entry) }))) ⌝ }
+{
+    let limits = room_for(
+        mantissas.len(),
+        exponents.len(),
+        faces.len(),
+        cells.len(),
+        room,
+    );
+    let reply = survey::survey(s, limits);
+    let mut flat: [u32; 384] = [0; 384];
+    match reply {
+        Reply::Refused {
+            why: _,
+            section: _,
+            offset: _,
+        } => Found {
+            reply,
+            zones: 0,
+            flat,
+        },
+        Reply::Accepted {
+            dim,
+            nodes: _,
+            faces: _,
+            cells: _,
+            zones,
+        } => {
+            let d = coordinates_in(dim);
+            fill_tables(s, d, mantissas, exponents, faces, cells, &mut flat);
+            let count = zones as usize;
+            Found {
+                reply,
+                zones: count,
+                flat,
+            }
+        }
+    }
+}

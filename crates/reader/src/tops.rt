@@ -1,0 +1,126 @@
+// The header of a section in a file that is known to be good, as its zone record.
+ghost use mathlib.Core.Path.{_≡_};
+ghost use Prim.Native.Nat.{_*_, _-_, _≤_};
+ghost use lib.ListN.{length};
+ghost use lib.Seq.{sets};
+ghost use Rattle.sizes.specs.Sizes.{zones};
+ghost use Rattle.tokens.specs.Listed.{tokensFrom};
+ghost use Rattle.layout.specs.Items.{cell};
+ghost use Rattle.layout.specs.Rows.{elementIn, zoneOf};
+ghost use Rattle.layout.specs.Sections.{headerOf, headOf};
+ghost use Rattle.steps.specs.Heads.{kindFor, fifthFor};
+ghost use Rattle.reader.specs.Filling.{Steps};
+ghost use Rattle.reader.specs.Found.{wordsOf};
+ghost use Rattle.reader.specs.Passing.{topOf};
+use judging::id_of;
+use mesh::Zone;
+use mesh::store;
+use steps::Fifth;
+use steps::Head;
+use steps::Header;
+use steps::Kind;
+
+// The record of a section, and the place behind its header.
+pub struct Top {
+    pub zone: Zone,
+    pub next: usize,
+}
+
+fn element_given(fifth: Fifth) -> u32
+    ensures { λ r. ⌜ r ≡ elementIn cell (fifthFor fifth) ⌝ }
+{
+    match fifth {
+        Fifth::Given(v) => v,
+        Fifth::Absent => 0,
+    }
+}
+
+// For nodes 0.
+fn element_in(kind: Kind, fifth: Fifth) -> u32
+    ensures { λ r. ⌜ r ≡ elementIn (kindFor kind) (fifthFor fifth) ⌝ }
+{
+    match kind {
+        Kind::Node => 0,
+        Kind::Cell => element_given(fifth),
+        Kind::Face => element_given(fifth),
+    }
+}
+
+fn top_of(kind: Kind, h: Head, next: usize) -> Top
+    ensures { λ r. ⌜ r ≡ topOf kind h next ⌝ }
+{
+    let section = id_of(kind);
+    let fifth = h.fifth;
+    let element = element_in(kind, fifth);
+    let zone = h.zone.value;
+    let first = h.first.value;
+    let last = h.last.value;
+    let ztype = h.ztype.value;
+    Top {
+        zone: Zone {
+            section,
+            zone,
+            first,
+            last,
+            ztype,
+            element,
+        },
+        next,
+    }
+}
+
+fn no_top(next: usize) -> Top
+    ensures { λ r. ⌜ r .next ≡ next ⌝ }
+{
+    Top {
+        zone: Zone {
+            section: 0,
+            zone: 0,
+            first: 0,
+            last: 0,
+            ztype: 0,
+            element: 0,
+        },
+        next,
+    }
+}
+
+pub(crate) fn top_at(s: &[u8], at: usize, kind: Kind) -> Top
+    ensures { λ r. ⌜ Steps (now (s .entry)) at (r .next) (headOf (length (now (s .entry))) (kindFor kind) (tokensFrom (now (s .entry)) at)) (λ h. r .zone ≡ zoneOf (kindFor kind) (headerOf h)) ⌝ }
+{
+    let header = steps::head_at(s, at, kind);
+    match header {
+        Header::No(_) => no_top(at),
+        Header::Is { head, next } => top_of(kind, head, next),
+    }
+}
+
+// The rows before the index `first`; indices begin at 1.
+pub(crate) fn rows_before(first: u32) -> usize
+    ensures { λ r. ⌜ r ≡ first - 1 ⌝ }
+{
+    if first == 0 {
+        return 0;
+    }
+    let before = first - 1;
+    before as usize
+}
+
+// A record behind the z that are in the list, six words each.
+pub(crate) fn put_record(list: &mut [u32], z: usize, zone: Zone)
+    requires { ⌜ z ≤ zones ⌝ }
+    ensures { λ _. ⌜ now (list .exit) ≡ sets (now (list .entry)) (6 * z) (wordsOf zone) ⌝ }
+{
+    let k = 6 * z;
+    let k1 = k + 1;
+    let k2 = k + 2;
+    let k3 = k + 3;
+    let k4 = k + 4;
+    let k5 = k + 5;
+    store(list, k, zone.section);
+    store(list, k1, zone.zone);
+    store(list, k2, zone.first);
+    store(list, k3, zone.last);
+    store(list, k4, zone.ztype);
+    store(list, k5, zone.element);
+}

@@ -1,0 +1,62 @@
+// A section that is stepped over.
+ghost use lib.ListN.{length};
+ghost use Rattle.tokens.specs.Listed.{tokensFrom};
+ghost use Rattle.layout.specs.Reading.{skip};
+ghost use Rattle.steps.specs.Views.{PastAt};
+use super::step::Bad;
+use super::step::Past;
+use layout::Refusal;
+use tokens::Cursor;
+use tokens::Token;
+
+// To behind the `)` that closes the section; `at` is behind its id. d parentheses are open inside it.
+pub fn skip_from(s: &[u8], at: usize) -> Past
+    ensures { λ r. ⌜ PastAt (now (s .entry)) at r (skip (length (now (s .entry))) 0 (tokensFrom (now (s .entry)) at)) ⌝ }
+{
+    let mut c = at;
+    let mut d: u32 = 0;
+    loop {
+        let t = (Cursor { at: c }).token(s);
+        let k = t.token;
+        let start = t.start;
+        let next = t.next.at;
+        match k {
+            Token::Left => {
+                let deeper = d + 1;
+                if sizes::DEPTH <= deeper {
+                    return Past::No(Bad {
+                        why: Refusal::Depth,
+                        offset: start,
+                    });
+                }
+                d = deeper;
+                c = next;
+            }
+            Token::Right => {
+                if d == 0 {
+                    return Past::To(next);
+                }
+                d -= 1;
+                c = next;
+            }
+            Token::Word => {
+                c = next;
+            }
+            Token::Text => {
+                c = next;
+            }
+            Token::End => {
+                return Past::No(Bad {
+                    why: Refusal::Grammar,
+                    offset: start,
+                });
+            }
+            Token::Unclosed => {
+                return Past::No(Bad {
+                    why: Refusal::Grammar,
+                    offset: start,
+                });
+            }
+        }
+    }
+}
