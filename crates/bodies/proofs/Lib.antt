@@ -1,3 +1,4 @@
 pub mod Forgotten
 pub mod Loose
 pub mod Shapes
+pub mod Alike

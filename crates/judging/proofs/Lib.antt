@@ -1,3 +1,4 @@
 pub mod Listing
 pub mod Keeping
 pub mod Judging
+pub mod Only

@@ -1,3 +1,4 @@
 pub mod Taken
 pub mod Stepping
 pub mod Chain
+pub mod Alike

@@ -1,4 +1,5 @@
 // A section that is stepped over.
+ghost use mathlib.Core.Path.{_≡_};
 ghost use lib.ListN.{length};
 ghost use Rattle.tokens.specs.Listed.{tokensFrom};
 ghost use Rattle.layout.specs.Reading.{skip};
@@ -8,6 +9,12 @@ use super::step::Past;
 use layout::Refusal;
 use tokens::Cursor;
 use tokens::Token;
+
+fn no(why: Refusal, offset: usize) -> Past
+    ensures { λ r. ⌜ r ≡ Past.No (record { why = why; offset = offset }) ⌝ }
+{
+    Past::No(Bad { why, offset })
+}
 
 // To behind the `)` that closes the section; `at` is behind its id. d parentheses are open inside it.
 pub fn skip_from(s: &[u8], at: usize) -> Past
@@ -19,43 +26,28 @@ pub fn skip_from(s: &[u8], at: usize) -> Past
         let t = (Cursor { at: c }).token(s);
         let k = t.token;
         let start = t.start;
-        let next = t.next.at;
+        c = t.next.at;
         match k {
             Token::Left => {
                 let deeper = d + 1;
                 if sizes::DEPTH <= deeper {
-                    return Past::No(Bad {
-                        why: Refusal::Depth,
-                        offset: start,
-                    });
+                    return no(Refusal::Depth, start);
                 }
                 d = deeper;
-                c = next;
             }
             Token::Right => {
                 if d == 0 {
-                    return Past::To(next);
+                    return Past::To(c);
                 }
                 d -= 1;
-                c = next;
             }
-            Token::Word => {
-                c = next;
-            }
-            Token::Text => {
-                c = next;
-            }
+            Token::Word => {}
+            Token::Text => {}
             Token::End => {
-                return Past::No(Bad {
-                    why: Refusal::Grammar,
-                    offset: start,
-                });
+                return no(Refusal::Grammar, start);
             }
             Token::Unclosed => {
-                return Past::No(Bad {
-                    why: Refusal::Grammar,
-                    offset: start,
-                });
+                return no(Refusal::Grammar, start);
             }
         }
     }

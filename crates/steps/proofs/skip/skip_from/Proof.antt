@@ -11,6 +11,7 @@ use Rattle.steps.proofs.skip.skip_from.Statement.{statement}
 use Rattle.steps.proofs.skip.skip_from.Tie as tie
 use Rattle.steps.proofs.skip.skip_from.Reads as reads
 use Rattle.steps.proofs.skip.skip_from.Lts as lts
+use Rattle.steps.proofs.skip.no.Reads as no-reads
 use Rattle.tokens.proofs.Cursor.token.Reads as token-reads
 
 abbrev Inv-loop : tie.InvT-loop
@@ -31,8 +32,13 @@ enum-told c = search needs
 add-deeper : tie.Need-add-deeper Inv-loop μ-loop
 add-deeper c = omega (arith, c .before .before .before .loop .inv .deep)
 
+no-requires : tie.Need-no-requires Inv-loop μ-loop
+no-requires c κs = search needs
+
 returns : tie.Need-returns Inv-loop μ-loop
-returns c = skip-deep _ _ _ _ (c .before .before .before .before .loop .inv) _ (c .before .before .before .token .ensures) (c .before .enum-told .given .1) (c .if1 .taken)
+returns c =
+    let b = c .before in
+    rw (c .no .ensures) (skip-deep _ _ _ _ (b .before .before .before .before .loop .inv) _ (b .before .before .before .token .ensures) (b .before .enum-told .given .1) (b .if1 .taken))
 
 loop-less : tie.Need-loop-less Inv-loop μ-loop
 loop-less c = let v = moved _ _ _ Token.Left (c .before .before .before .token .ensures) (c .before .enum-told .given .1) tt in omega arith
@@ -76,14 +82,24 @@ loop-again-4 c = skip-text _ _ _ _ (c .before .before .before .loop .inv) _ (c .
 enum-told-5 : tie.Need-enum-told-5 Inv-loop μ-loop
 enum-told-5 c = search needs
 
+no-requires-2 : tie.Need-no-requires-2 Inv-loop μ-loop
+no-requires-2 c κs = search needs
+
 returns-3 : tie.Need-returns-3 Inv-loop μ-loop
-returns-3 c = skip-end _ _ _ _ (c .before .before .before .loop .inv) _ (c .before .before .token .ensures) (c .enum-told5 .given .1)
+returns-3 c =
+    let b = c .before in
+    rw (c .no2 .ensures) (skip-end _ _ _ _ (b .before .before .before .loop .inv) _ (b .before .before .token .ensures) (b .enum-told5 .given .1))
 
 enum-told-6 : tie.Need-enum-told-6 Inv-loop μ-loop
 enum-told-6 c = search needs
 
+no-requires-3 : tie.Need-no-requires-3 Inv-loop μ-loop
+no-requires-3 c κs = search needs
+
 returns-4 : tie.Need-returns-4 Inv-loop μ-loop
-returns-4 c = skip-cut _ _ _ _ (c .before .before .before .loop .inv) _ (c .before .before .token .ensures) (c .enum-told6 .given .1)
+returns-4 c =
+    let b = c .before in
+    rw (c .no3 .ensures) (skip-cut _ _ _ _ (b .before .before .before .loop .inv) _ (b .before .before .token .ensures) (b .enum-told6 .given .1))
 
 pub skip-from-spec : {M : Type 1} → statement M
 skip-from-spec =
@@ -95,6 +111,7 @@ skip-from-spec =
     token-requires
     enum-told
     add-deeper
+    no-requires
     returns
     loop-less
     loop-again
@@ -110,6 +127,8 @@ skip-from-spec =
     loop-less-4
     loop-again-4
     enum-told-5
+    no-requires-2
     returns-3
     enum-told-6
+    no-requires-3
     returns-4)
