@@ -11,7 +11,7 @@ pub mod Sectioned
 pub mod Whole
 pub mod Cored
 pub mod Through
-mod Few
+pub mod Few
 mod Filled
 pub mod Zoned
 pub mod Only

@@ -13,8 +13,8 @@ use Rattle.layout.specs.Rows.{joined, pad}
 use Rattle.layout.specs.Reading.{Got, got, bad, Reader, pairWord, rowsOf}
 use Rattle.layout.proofs.Formed.{pad-length}
 use Rattle.reader.specs.Filling.{Then, Steps, Both, setPairs, origin}
-use Rattle.reader.proofs.Steps.{steps-more, steps-with, rows-length}
-use Rattle.reader.proofs.Puts.{sets-behind, pad-is}
+use Rattle.reader.proofs.Steps.{then-always, steps-more, steps-with, rows-length}
+use Rattle.reader.proofs.Puts.{sets-behind, pad-is, singles, repeated}
 use Rattle.reader.proofs.Rowing.{Going, Repeating, going-start, going-more, going-end, repeat-start, repeat-more, repeat-end}
 
 both-is : {m n e f : List ℤ} → m ≡ n → e ≡ f → _≡_ {A = Both} (record { mantissas = m; exponents = e }) (record { mantissas = n; exponents = f })
@@ -36,10 +36,6 @@ pub pair-put : (s : List ℕ) (at : ℕ) (g : Got Pair) (m e : ℤ) (to k : ℕ)
 pair-put s at g m e to k ms es ms′ es′ h p q = steps-more s at g (λ x y. both-is (p ∙ ap (set ms k) (y .0)) (q ∙ ap (set es k) (y .1))) h
 
 -- ---- coordinates one behind the other
-singles : (ps : List Pair) → joined (map (λ p. p ∷ []) ps) ≡ ps
-singles [] = refl
-singles (p ∷ ps) = ap (λ r. p ∷ r) (singles ps)
-
 abbrev pub Pairing : List ℕ → ℕ → ℕ → ℕ → Both → ℕ → ℕ → ℕ → Both → Type 0
 Pairing s at n k old c left i cur = Going setPairs s (pairWord (length s)) (λ p. p ∷ []) 1 at n k old c left i cur
 
@@ -48,13 +44,9 @@ module _ (s : List ℕ) (at n k : ℕ) (old : Both) where
   pairing-start = going-start setPairs no-pairs pairs-behind s (pairWord (length s)) (λ p. p ∷ []) 1 at n k old
 
   module _ (c left i : ℕ) (cur : Both) (g : Pairing s at n k old c left i cur) where
-    always : (y : Got Pair) → Then y (λ a us. _≡_ {A = ℕ} 1 1)
-    always (got a us) = refl
-    always (bad w o) = tt
-
     pub pairing-more : (c′ : ℕ) (cur′ : Both) → 0 < left → Steps s c c′ (pairWord (length s) (tokensFrom s c)) (λ p. cur′ ≡ setPairs cur i (p ∷ []))
         → Pairing s at n k old c′ (left - 1) (i + 1) cur′
-    pairing-more c′ cur′ l h = going-more setPairs no-pairs pairs-behind s (pairWord (length s)) (λ p. p ∷ []) 1 at n k old c left i cur g c′ cur′ l h (always (pairWord (length s) (tokensFrom s c)))
+    pairing-more c′ cur′ l h = going-more setPairs no-pairs pairs-behind s (pairWord (length s)) (λ p. p ∷ []) 1 at n k old c left i cur g c′ cur′ l h (then-always (pairWord (length s) (tokensFrom s c)) (_≡_ {A = ℕ} 1 1) refl)
 
     pub pairing-end : left ≤ 0 → Steps s at c (rowsOf (length s) (pairWord (length s)) n (tokensFrom s at)) (λ ps. cur ≡ setPairs old k ps)
     pairing-end l =
@@ -66,8 +58,7 @@ abbrev pub naught : List Pair
 naught = origin ∷ []
 
 pub origins-are : (n : ℕ) → joined (replicate n naught) ≡ replicate n origin
-origins-are zero = refl
-origins-are (suc n) = ap (λ r. origin ∷ r) (origins-are n)
+origins-are n = repeated origin n
 
 pub origin-put : (k : ℕ) (ms es ms′ es′ : List ℤ) → ms′ ≡ set ms k (pos 0) → es′ ≡ set es k (pos 0)
     → _≡_ {A = Both} (record { mantissas = ms′; exponents = es′ }) (setPairs (record { mantissas = ms; exponents = es }) k naught)

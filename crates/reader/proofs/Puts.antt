@@ -38,3 +38,12 @@ module _ {A : Type 0} where
 
   pub pad-is : (n : ℕ) (d : A) (xs : List A) → length xs ≤ n → pad n d xs ≡ xs ++ replicate (n - length xs) d
   pad-is n d xs h = pad-from d xs n n h (omega arith)
+
+  -- rows of one word
+  pub singles : (xs : List A) → joined (map (λ v. v ∷ []) xs) ≡ xs
+  singles [] = refl
+  singles (x ∷ xs) = ap (λ r. x ∷ r) (singles xs)
+
+  pub repeated : (a : A) (n : ℕ) → joined (replicate n (a ∷ [])) ≡ replicate n a
+  repeated a zero = refl
+  repeated a (suc n) = ap (λ r. a ∷ r) (repeated a n)

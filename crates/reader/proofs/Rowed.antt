@@ -19,17 +19,13 @@ use Rattle.facts.proofs.Decides.{and-is, le-is}
 use Rattle.reader.specs.declared.rows.Form.{Form}
 use Rattle.reader.specs.Filling.{Then, Steps, mapped, rowRead, Placed, widthOf}
 use Rattle.layout.proofs.Formed.{pad-length}
-use Rattle.reader.proofs.Steps.{then-more, then-next, then-check, steps-more, steps-with, steps-next, steps-pure, rows-length}
-use Rattle.reader.proofs.Puts.{sets-behind, pad-is}
+use Rattle.reader.proofs.Steps.{then-always, then-more, then-next, then-check, steps-more, steps-with, steps-next, steps-pure, rows-length}
+use Rattle.reader.proofs.Puts.{sets-behind, pad-is, singles, repeated}
 use Rattle.reader.proofs.Rowing.{Going, Stored, going-start, going-more, going-end}
 
 -- ---- words
 pub none-set : (o : List ℕ) (k : ℕ) → sets o k [] ≡ o
 none-set o k = refl
-
-singles : (xs : List ℕ) → joined (map (λ v. v ∷ []) xs) ≡ xs
-singles [] = refl
-singles (x ∷ xs) = ap (λ r. x ∷ r) (singles xs)
 
 abbrev pub Wording : List ℕ → ℕ → ℕ → ℕ → List ℕ → ℕ → ℕ → ℕ → List ℕ → Type 0
 Wording s at n k old c left i cur = Going sets s (hexOf (length s)) (λ v. v ∷ []) 1 at n k old c left i cur
@@ -39,13 +35,9 @@ module _ (s : List ℕ) (at n k : ℕ) (old : List ℕ) where
   wording-start = going-start sets none-set sets-behind s (hexOf (length s)) (λ v. v ∷ []) 1 at n k old
 
   module _ (c left i : ℕ) (cur : List ℕ) (g : Wording s at n k old c left i cur) where
-    always : (y : Got ℕ) → Then y (λ a us. _≡_ {A = ℕ} 1 1)
-    always (got a us) = refl
-    always (bad w o) = tt
-
     pub wording-more : (c′ : ℕ) (cur′ : List ℕ) → 0 < left → Steps s c c′ (hexOf (length s) (tokensFrom s c)) (λ v. cur′ ≡ sets cur i (v ∷ []))
         → Wording s at n k old c′ (left - 1) (i + 1) cur′
-    wording-more c′ cur′ l h = going-more sets none-set sets-behind s (hexOf (length s)) (λ v. v ∷ []) 1 at n k old c left i cur g c′ cur′ l h (always (hexOf (length s) (tokensFrom s c)))
+    wording-more c′ cur′ l h = going-more sets none-set sets-behind s (hexOf (length s)) (λ v. v ∷ []) 1 at n k old c left i cur g c′ cur′ l h (then-always (hexOf (length s) (tokensFrom s c)) (_≡_ {A = ℕ} 1 1) refl)
 
     pub wording-end : left ≤ 0 → Steps s at c (rowsOf (length s) (hexOf (length s)) n (tokensFrom s at)) (λ vs. cur ≡ sets old k vs)
     wording-end l =
@@ -57,8 +49,7 @@ abbrev pub naught : List ℕ
 naught = 0 ∷ []
 
 pub zeros-are : (n : ℕ) → joined (replicate n naught) ≡ replicate n 0
-zeros-are zero = refl
-zeros-are (suc n) = ap (λ r. 0 ∷ r) (zeros-are n)
+zeros-are n = repeated 0 n
 
 -- ---- single words and rows
 row-is : (n t k r l : ℕ) (ns old : List ℕ) → n ≤ places → length ns ≡ n

@@ -15,6 +15,10 @@ pub then-more : {A : Type 0} (g : Got A) {P Q : A → List Tok → Type 0} → (
 then-more (got a us) f h = f a us h
 then-more (bad w o) f h = tt
 
+pub then-always : {A : Type 0} (g : Got A) (P : Type 0) → P → Then g (λ a us. P)
+then-always (got a us) P p = p
+then-always (bad w o) P p = tt
+
 pub then-is : {A : Type 0} {g : Got A} (P : A → List Tok → Type 0) (a : A) (us : List Tok) → g ≡ got a us → Then g P → P a us
 then-is P a us e h = rw e at h
 

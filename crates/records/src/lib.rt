@@ -33,7 +33,7 @@ fn has_place(kind: u32) -> bool
     2 <= kind && kind <= 4
 }
 
-fn extra_bytes(kind: u32) -> usize
+pub fn extra_bytes(kind: u32) -> usize
     ensures { λ r. ⌜ r ≡ extraBytes narrow kind ⌝ }
 {
     if has_place(kind) {

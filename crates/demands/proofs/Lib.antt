@@ -1,0 +1,5 @@
+mod Files
+mod Limits
+pub mod Asks
+pub mod Others
+pub mod Demands

@@ -1,0 +1,1 @@
+// No function: the three demands stand in specs/, their proof in proofs/.

@@ -1,0 +1,137 @@
+// A text read and audited, and what is printed of it.
+ghost use Prim.Native.Nat.{_≤_};
+ghost use mathlib.Core.Path.{_≡_};
+ghost use mathlib.Core.List.{[], _∷_};
+ghost use lib.ListN.{length, replicate};
+ghost use Rattle.facts.specs.Text.{bytes};
+ghost use Rattle.mesh.specs.Rows.{places};
+ghost use Rattle.layout.specs.Replies.{numberOf};
+ghost use Rattle.audit.specs.Audit.{tables, auditOf};
+ghost use Rattle.report.specs.Writing.{Wrote, line};
+ghost use Rattle.report.specs.Report.{faultLines, audited, reportOf};
+use super::lines::put_last;
+use super::lines::put_line;
+use super::listed::put_faults;
+use super::put::put_text;
+use audit::Audited;
+use layout::Refusal;
+use layout::Reply;
+
+// The paper's number of a refusal.
+fn number_of(why: Refusal) -> usize
+    ensures { λ r. ⌜ r ≡ numberOf why ⌝ }
+{
+    match why {
+        Refusal::TooLong => 1,
+        Refusal::Grammar => 2,
+        Refusal::Number => 3,
+        Refusal::Binary => 4,
+        Refusal::Undeclared => 5,
+        Refusal::Range => 6,
+        Refusal::TableRoom => 7,
+        Refusal::Overlap => 8,
+        Refusal::Type => 9,
+        Refusal::Dimension => 10,
+        Refusal::ZoneRoom => 11,
+        Refusal::Depth => 12,
+        Refusal::Missing => 13,
+        Refusal::Untiled => 14,
+    }
+}
+
+fn put_refusal(out: &mut [u8], why: Refusal, section: u32, offset: usize) -> usize
+    ensures { λ r. ⌜ Wrote (now (out .entry)) 0 (line (bytes "refused") (numberOf why ∷ section ∷ offset ∷ [])) (now (out .exit)) r ⌝ }
+{
+    let number = number_of(why);
+    let k = section as usize;
+    put_line(out, b"refused", number, k, offset)
+}
+
+// The total, and a line for each record.
+fn put_total(out: &mut [u8], total: u32, list: &[u8]) -> usize
+    requires { ⌜ length (now list) ≤ 4096 ⌝ }
+    ensures { λ r. ⌜ Wrote (now (out .entry)) 0 (faultLines total (now (list .entry))) (now (out .exit)) r ⌝ }
+{
+    let n = total as usize;
+    let c = put_text(out, 0, b"faults");
+    let d = put_last(out, c, n);
+    put_faults(out, d, list)
+}
+
+fn put_clean(out: &mut [u8], nodes: u32, faces: u32, cells: u32) -> usize
+    ensures { λ r. ⌜ Wrote (now (out .entry)) 0 (line (bytes "clean") (nodes ∷ faces ∷ cells ∷ [])) (now (out .exit)) r ⌝ }
+{
+    let n = nodes as usize;
+    let f = faces as usize;
+    let c = cells as usize;
+    put_line(out, b"clean", n, f, c)
+}
+
+// The tables of an accepted file, audited with a list of 4,096 bytes.
+fn put_audit(
+    out: &mut [u8],
+    dim: u32,
+    nodes: u32,
+    faces: u32,
+    cells: u32,
+    face_rows: &[u32],
+    cell_rows: &[u32],
+) -> usize
+    ensures { λ r. ⌜ Wrote (now (out .entry)) 0 (audited (auditOf places (tables dim nodes faces cells (now («face_rows» .entry)) (now («cell_rows» .entry))) (replicate 1024 0) (replicate 4096 0)) nodes faces cells) (now (out .exit)) r ⌝ }
+{
+    let mut counts: [u32; 1024] = [0; 1024];
+    let mut list: [u8; 4096] = [0; 4096];
+    let a = audit::audit(
+        dim,
+        nodes,
+        faces,
+        cells,
+        face_rows,
+        cell_rows,
+        &mut counts,
+        &mut list,
+    );
+    match a {
+        Audited::Refused(_) => put_clean(out, nodes, faces, cells),
+        Audited::Done { total, bytes } => {
+            if total == 0 {
+                put_clean(out, nodes, faces, cells)
+            } else {
+                put_total(out, total, &list[..bytes])
+            }
+        }
+    }
+}
+
+// What the report program prints of a text: as many of its bytes as `out` has room for. Answers how many these are.
+pub fn report(text: &[u8], out: &mut [u8]) -> usize
+    ensures { λ r. ⌜ Wrote (now (out .entry)) 0 (reportOf (now (text .entry))) (now (out .exit)) r ⌝ }
+{
+    let mut mantissas: [i64; 3072] = [0; 3072];
+    let mut exponents: [i32; 3072] = [0; 3072];
+    let mut faces: [u32; 8192] = [0; 8192];
+    let mut cells: [u32; 2048] = [0; 2048];
+    let found = reader::read_flat(
+        text,
+        &mut mantissas,
+        &mut exponents,
+        &mut faces,
+        &mut cells,
+        64,
+    );
+    let reply = found.reply;
+    match reply {
+        Reply::Refused {
+            why,
+            section,
+            offset,
+        } => put_refusal(out, why, section, offset),
+        Reply::Accepted {
+            dim,
+            nodes,
+            faces: f,
+            cells: c,
+            zones: _,
+        } => put_audit(out, dim, nodes, f, c, &faces, &cells),
+    }
+}
