@@ -74,7 +74,7 @@ pub record Fits (s : List ℕ) (lent : Lent) : Type 0 where
   pub laid : LaidText (roomOf lent) s items
 
 pub record FileRead (κ : Lfts 6) (a : Args read.signature κ) (r : Res read.signature κ) (x : AtExit read.ended κ) : Type 0 where
-  -- 0 is Accepted. Not: refusing all files (reader/all_files_refused), one fixed answer (reader/one_fixed_answer)
+  -- 0 is Accepted. Not: refusing all files (survey/all_files_refused), one fixed answer (survey/one_fixed_answer)
   pub accepted : (shown r .number ≡ 0) ↔ Fits (now (a .0)) (takes κ a)
   -- Not: accepting without filling rows (reader/accepting_without_filling, reader/nodes_never_written), other numbers than the text's (reader/cell_number_clamped)
   pub holds : (m : Mesh) → (record { reply = r; held = leaves κ x } ≡ acceptedAs m) ↔ Says (now (a .0)) (takes κ a) m
