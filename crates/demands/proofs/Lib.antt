@@ -3,3 +3,4 @@ mod Limits
 pub mod Asks
 pub mod Others
 pub mod Demands
+pub mod Joined

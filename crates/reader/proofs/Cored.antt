@@ -54,7 +54,7 @@ module _ (room : Room) (ts : List Tok) (is : List Item) (l : Laid room ts is) wh
   item-listed before n (part k h b) q f = fits-listed before n (saysDim (part k h b)) q (f .dimension)
   item-listed before n other q f = absurd (let z : _≡_ {A = ℕ} 0 1 = cc in omega arith)
 
-  some-listed : (before rest : List Item) (n : ℕ) → is ≡ before ++ rest → Some (SaysDim n) rest → Listed n
+  pub some-listed : (before rest : List Item) (n : ℕ) → is ≡ before ++ rest → Some (SaysDim n) rest → Listed n
   some-listed before [] n e y = absurd y
   some-listed before (i ∷ rest) n e (inl y) = item-listed before n i y (l .fits before i rest e)
   some-listed before (i ∷ rest) n e (inr y) = some-listed (before ++ (i ∷ [])) rest n (onward before rest i e) y
