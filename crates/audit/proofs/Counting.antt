@@ -11,11 +11,11 @@ use lib.Seq.{getD-set-same, getD-set-other, ext-getD, getD-append-add, drop-set-
 use Rattle.facts.proofs.Branch.{split}
 use Rattle.mesh.specs.declared.Face.{Face}
 use Rattle.mesh.specs.Rows.{faceAt}
-use Rattle.faults.specs.Over.{sumOver, listed}
+use Rattle.faults.specs.Over.{listed}
 use Rattle.faults.specs.Sides.{one, sidesNaming, countOver}
 use Rattle.faults.proofs.Sides.{one-most, sidesNaming-is, countOver-most}
 use Rattle.faults.proofs.Over.{sumOver-more, sumOver-none, listed-length, listed-at}
-use Rattle.audit.specs.Steps.{bump}
+use Rattle.audit.specs.Steps.{bump, Tallying}
 
 -- the three ways of one more
 module _ (n x : ℕ) (l : List ℕ) where
@@ -71,16 +71,10 @@ bumped-small cells x b counts next l e h i k =
     omega (arith, ap (λ (m : List ℕ). getD m i 0) e, bump-at cells x counts i l k, h i k, one-most (eqb x (i + 1)))
 
 module _ (n : ℕ) (rows : List ℕ) (faces cells : ℕ) where
-  -- what the faces behind f still add to a count
-  abbrev pub left : ℕ → ℕ → ℕ
-  left f i = sumOver (λ g. sidesNaming (faceAt n rows (g - 1)) (i + 1)) (f + 1) (faces - f)
+  abbrev Tallied : List ℕ → ℕ → List ℕ → Type 0
+  Tallied = Tallying n rows faces cells
 
-  pub record Tallying (first : List ℕ) (f : ℕ) (counts : List ℕ) : Type 0 where
-    pub sums : (i : ℕ) → i < cells → getD counts i 0 + left f i ≡ countOver n rows faces (i + 1)
-    pub rest : drop cells counts ≡ drop cells first
-    pub kept : length counts ≡ length first
-
-  pub tallying-none : (first rest : List ℕ) → first ≡ replicate cells 0 ++ rest → Tallying first 0 first
+  pub tallying-none : (first rest : List ℕ) → first ≡ replicate cells 0 ++ rest → Tallied first 0 first
   unfolding countOver
   tallying-none first rest e = record {
     sums = λ i k.
@@ -91,11 +85,11 @@ module _ (n : ℕ) (rows : List ℕ) (faces cells : ℕ) where
     kept = refl;
   }
 
-  pub tallying-small : {first counts : List ℕ} {f : ℕ} → Tallying first f counts → (i : ℕ) → i < cells → getD counts i 0 ≤ faces * 2
+  pub tallying-small : {first counts : List ℕ} {f : ℕ} → Tallied first f counts → (i : ℕ) → i < cells → getD counts i 0 ≤ faces * 2
   tallying-small {first} {counts} {f} t i k = omega (arith, t .sums i k, countOver-most n rows faces (i + 1))
 
   pub tallying-more : {first counts c₁ c₂ : List ℕ} {f : ℕ} (face : Face) → f < faces → cells ≤ length counts → face ≡ faceAt n rows f
-      → c₁ ≡ bump cells (face .right) counts → c₂ ≡ bump cells (face .left) c₁ → Tallying first f counts → Tallying first (f + 1) c₂
+      → c₁ ≡ bump cells (face .right) counts → c₂ ≡ bump cells (face .left) c₁ → Tallied first f counts → Tallied first (f + 1) c₂
   tallying-more {first} {counts} {c₁} {c₂} {f} face h l e p q t = record {
     sums = λ i k.
         let z : f + 1 - 1 ≡ f = omega arith in
@@ -107,12 +101,29 @@ module _ (n : ℕ) (rows : List ℕ) (faces cells : ℕ) where
     kept = ap length q ∙ bump-length cells (face .left) c₁ ∙ ap length p ∙ bump-length cells (face .right) counts ∙ t .kept;
   }
 
+  -- counts that another loop takes over, and what it makes of them
+  pub tallying-from : {first counts : List ℕ} {f : ℕ} → Tallied first f counts → Tallied counts f counts
+  tallying-from t = record { sums = t .sums; rest = refl; kept = refl }
+
+  pub tallying-on : {first counts last : List ℕ} {f g : ℕ} → Tallied first f counts → Tallied counts g last → Tallied first g last
+  tallying-on t u = record { sums = u .sums; rest = u .rest ∙ t .rest; kept = u .kept ∙ t .kept }
+
+  -- behind the last face no side is left
+  pub tallying-past : {first counts : List ℕ} {f : ℕ} → faces ≤ f → Tallied first f counts → Tallied first (f + 1) counts
+  tallying-past {first} {counts} {f} h t = record {
+    sums = λ i k.
+        let g : ℕ → ℕ = λ j. sidesNaming (faceAt n rows (j - 1)) (i + 1) in
+        omega (arith, t .sums i k, sumOver-none g (f + 1) f faces h, sumOver-none g (f + 1 + 1) (f + 1) faces (omega arith));
+    rest = t .rest;
+    kept = t .kept;
+  }
+
   behind : (a b : List ℕ) (i : ℕ) → length a ≡ cells → cells ≤ i → getD (a ++ b) i 0 ≡ getD b (i - cells) 0
   behind a b i e h =
       let k : i ≡ length a + (i - cells) = omega arith in
       ap (λ (j : ℕ). getD (a ++ b) j 0) k ∙ getD-append-add a b (i - cells) 0
 
-  pub tallying-all : {first counts : List ℕ} {f : ℕ} (rest : List ℕ) → faces ≤ f → first ≡ replicate cells 0 ++ rest → Tallying first f counts
+  pub tallying-all : {first counts : List ℕ} {f : ℕ} (rest : List ℕ) → faces ≤ f → first ≡ replicate cells 0 ++ rest → Tallied first f counts
       → counts ≡ listed (countOver n rows faces) 1 cells ++ rest
   tallying-all {first} {counts} {f} rest h l t =
       let long : length first ≡ cells + length rest = ap length l ∙ simp (length-append, length-replicate) in

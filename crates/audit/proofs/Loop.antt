@@ -3,7 +3,7 @@ use Prim.Native.Nat.{ℕ, _-_, _+_, _≤_, _<_}
 use native.Mathlib.Omega.{arith}
 use mathlib.Core.Path.{_≡_, refl, sym, ap, _∙_}
 use mathlib.Core.Bool.{Bool, true, false, _&&_}
-use mathlib.Core.List.{List}
+use mathlib.Core.List.{List, [], _++_}
 use lib.Dec.{leb, eqb}
 use lib.ListN.{length, getD, length-append}
 use Rattle.facts.proofs.Branch.{either}
@@ -53,6 +53,10 @@ module _ {old : List ℕ} {s₀ : Stand} {whole : List Fault} {c : ℕ} {list : 
     kept = visited-length v ∙ l .kept;
   }
 
+  -- what is left begins with nothing to lay
+  pub skip : {rest more : List Fault} → rest ≡ more → Lays old s₀ rest whole c list s → Lays old s₀ more whole c list s
+  skip e l = rw (← e) l
+
   pub done : (g : ℕ → List Fault) (i a b c′ : ℕ) → b ≤ a → c ≤ c′ → Lays old s₀ (each g i (b - a)) whole c list s → Visited old s₀ whole c′ list s
   unfolding run
   done g i a b c′ h more l =
@@ -101,11 +105,13 @@ positionsOf-most n face k h =
     (λ _. either (λ (m : ℕ). m ≤ n) (leb 2 (face .count) && leb (face .count) n) (λ t. and-is (le-is 2 (face .count)) (le-is (face .count) n) .0 t .1) (λ _. omega arith))
     (λ _. either (λ (m : ℕ). m ≤ n) (eqb k 4) (λ _. h) (λ _. omega arith))
 
--- a face without any fault lays nothing
-pub face-none : (n : ℕ) (frame : Frame) (i : ℕ) (face : Face) (d : ℕ) {old : List ℕ} {s : Stand} → anyFault n frame face ≡ false
-    → Visited old s (faultsOfFace n frame i face) d old s
-unfolding run
-face-none n frame i face d e = rw (face-empty n frame i face e) (record { ran = refl; counted = omega arith; few = omega arith })
+-- a face without any fault adds nothing to the list: what is left to lay is what the faces behind it have
+pub face-quiet : (n : ℕ) (frame : Frame) (rows : List ℕ) (f faces : ℕ) (face : Face) → f < faces → face ≡ faceAt n rows f → anyFault n frame face ≡ false
+    → each (faceFaults n frame rows) (f + 1) (faces - f) ≡ each (faceFaults n frame rows) (f + 1 + 1) (faces - (f + 1))
+face-quiet n frame rows f faces face h e none =
+    let z : f + 1 - 1 ≡ f = omega arith in
+    let empty : faceFaults n frame rows (f + 1) ≡ [] = rw (z, ← e) (face-empty n frame (f + 1) face none) in
+    each-more (faceFaults n frame rows) (f + 1) f faces h ∙ ap (λ (l : List Fault). l ++ each (faceFaults n frame rows) (f + 1 + 1) (faces - (f + 1))) empty
 
 -- the face of number f + 1 is the row at f
 pub face-visited : (n : ℕ) (frame : Frame) (rows : List ℕ) (f : ℕ) (face : Face) {old new : List ℕ} {s r : Stand} {d : ℕ} → face ≡ faceAt n rows f

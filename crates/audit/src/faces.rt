@@ -6,12 +6,13 @@ use faults::Frame;
 use mesh::Face;
 use records::Fault;
 use records::Pen;
+ghost use mathlib.Core.Path.{_≡_};
 ghost use Prim.Native.Nat.{_<_, _≤_, _^_};
 ghost use lib.ListN.{length};
 ghost use Rattle.sizes.specs.Sizes.{rows as most};
-ghost use Rattle.mesh.specs.Rows.{places};
+ghost use Rattle.mesh.specs.Rows.{places, faceWords, rowsIn, faceAt};
 ghost use Rattle.faults.specs.Faults.{faultAt};
-ghost use Rattle.audit.specs.Steps.{Visited, Faced};
+ghost use Rattle.audit.specs.Steps.{Visited, Tallying, Sound, Faced};
 
 // One kind at one position of a face.
 fn visit(
@@ -39,6 +40,44 @@ fn visit(
     s
 }
 
+// The face row at f, as `mesh::face_at` has it, without its test for the end: the caller knows that the row is there.
+fn face_of(rows: &[u32], f: usize) -> Face
+    requires { ⌜ f < rowsIn (faceWords places) (now rows) ⌝ }
+    ensures { λ r. ⌜ r ≡ faceAt places (now (rows .entry)) f ⌝ }
+{
+    let start = f * mesh::FACE_WORDS;
+    let end = start + mesh::FACE_WORDS;
+    let row = &rows[start..end];
+    Face {
+        count: row[0],
+        nodes: [row[1], row[2], row[3], row[4]],
+        right: row[5],
+        left: row[6],
+        ztype: row[7],
+    }
+}
+
+// Counts the sides of the faces from `from` on, up to the first with a fault, and answers that one; `faces`, if all are sound.
+// Most faces are sound, so this is the hot loop. The listing of faults stands outside it: inside, it takes the loop's registers.
+fn sound_to(frame: Frame, from: usize, faces: usize, rows: &[u32], counts: &mut [u32]) -> usize
+    requires { ⌜ (from ≤ faces) × (faces ≤ most) × (faces ≤ rowsIn (faceWords places) (now rows)) × (frame .cells ≤ length (now counts))
+        × Tallying places (now rows) faces (frame .cells) (now counts) from (now counts) ⌝ }
+    ensures { λ r. ⌜ Sound frame from faces (now (rows .entry)) (now (counts .entry)) (now (counts .exit)) r ⌝ }
+{
+    let cells = frame.cells as usize;
+    let mut f = from;
+    while f < faces {
+        let face = face_of(rows, f);
+        tally(counts, cells, face.right);
+        tally(counts, cells, face.left);
+        if faults::any_fault(frame, face) {
+            return f;
+        }
+        f += 1;
+    }
+    f
+}
+
 pub(crate) fn audit_faces(
     frame: Frame,
     faces: usize,
@@ -46,7 +85,7 @@ pub(crate) fn audit_faces(
     counts: &mut [u32],
     list: &mut [u8],
 ) -> Stand
-    requires { ⌜ (faces ≤ most) × (frame .cells ≤ length (now counts)) ⌝ }
+    requires { ⌜ (faces ≤ most) × (frame .cells ≤ length (now counts)) × (faces ≤ rowsIn (faceWords places) (now rows)) ⌝ }
     ensures { λ r. ⌜ Faced frame faces (now (rows .entry)) (now (counts .entry)) (now (list .entry)) (now (counts .exit)) (now (list .exit)) r ⌝ }
 {
     let cells = frame.cells as usize;
@@ -54,24 +93,23 @@ pub(crate) fn audit_faces(
     let pen = Pen { at: 0, live: true };
     let mut s = Stand { pen, total: 0 };
     let mut f: usize = 0;
-    'faces: while f < faces {
+    'faces: loop {
+        f = sound_to(frame, f, faces, rows, counts);
+        if faces <= f {
+            return s;
+        }
         let face = mesh::face_at(rows, f);
-        tally(counts, cells, face.right);
-        tally(counts, cells, face.left);
         f += 1;
         let number = f as u32;
-        if faults::any_fault(frame, face) {
-            let mut kind: u32 = 1;
-            'kinds: while kind < 8 {
-                let positions = faults::positions(face, kind);
-                let mut p: u32 = 0;
-                'positions: while p < positions {
-                    s = visit(frame, face, number, kind, p, list, s);
-                    p += 1;
-                }
-                kind += 1;
+        let mut kind: u32 = 1;
+        'kinds: while kind < 8 {
+            let positions = faults::positions(face, kind);
+            let mut p: u32 = 0;
+            'positions: while p < positions {
+                s = visit(frame, face, number, kind, p, list, s);
+                p += 1;
             }
+            kind += 1;
         }
     }
-    s
 }

@@ -50,15 +50,15 @@ dropped a (got xs us) = refl
 dropped a (bad w o) = refl
 
 module _ (size : ℕ) (r : Reader Unit) where
-  rows-more : (n : ℕ) (ts us : List Tok) → r ts ≡ got tt us → forget (rowsOf size r n us) ≡ forget (rowsOf size r (suc n) ts)
+  pub rows-more : (n : ℕ) (ts us : List Tok) → r ts ≡ got tt us → forget (rowsOf size r n us) ≡ forget (rowsOf size r (suc n) ts)
   unfolding rowsOf
   rows-more n ts us e = rw e (sym (dropped tt (rowsOf size r n us)))
 
-  rows-stop : (n : ℕ) (ts : List Tok) (w : Refusal) (o : ℕ) → r ts ≡ bad w o → bad w o ≡ forget (rowsOf size r (suc n) ts)
+  pub rows-stop : (n : ℕ) (ts : List Tok) (w : Refusal) (o : ℕ) → r ts ≡ bad w o → bad w o ≡ forget (rowsOf size r (suc n) ts)
   unfolding rowsOf
   rows-stop n ts w o e = rw e
 
-  rows-none : (ts : List Tok) → got tt ts ≡ forget (rowsOf size r 0 ts)
+  pub rows-none : (ts : List Tok) → got tt ts ≡ forget (rowsOf size r 0 ts)
   unfolding rowsOf
   rows-none ts = refl
 

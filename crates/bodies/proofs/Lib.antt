@@ -1,4 +1,5 @@
 pub mod Forgotten
 pub mod Loose
+pub mod Flatly
 pub mod Shapes
 pub mod Alike

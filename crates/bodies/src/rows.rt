@@ -14,8 +14,10 @@ use steps::Bad;
 use steps::Num;
 use steps::Pair;
 use steps::Past;
+use steps::Quick;
 use steps::number_at;
 use steps::pair_at;
+use steps::quick_hex;
 
 pub enum Word {
     Hex,
@@ -45,8 +47,14 @@ fn past_of(n: Num) -> Past
 fn hex_past(s: &[u8], at: usize) -> Past
     ensures { λ r. ⌜ LooseAt (now (s .entry)) at r (wordUnit (length (now (s .entry))) Word.Hex (tokensFrom (now (s .entry)) at)) ⌝ }
 {
-    let n = number_at(s, at, Sort::Hexadecimal);
-    past_of(n)
+    let q = quick_hex(s, at);
+    match q {
+        Quick::Is { value: _, next } => Past::To(next),
+        Quick::Not => {
+            let n = number_at(s, at, Sort::Hexadecimal);
+            past_of(n)
+        }
+    }
 }
 
 fn decimal_past(s: &[u8], at: usize) -> Past
@@ -73,7 +81,7 @@ fn word_past(s: &[u8], at: usize, word: Word) -> Past
 }
 
 // n words one behind the other.
-fn words_past(s: &[u8], at: usize, word: Word, n: u32) -> Past
+fn words_past(s: &[u8], at: usize, word: Word, n: usize) -> Past
     ensures { λ r. ⌜ LooseAt (now (s .entry)) at r (forget (rowsOf (length (now (s .entry))) (wordUnit (length (now (s .entry))) word) n (tokensFrom (now (s .entry)) at))) ⌝ }
 {
     let mut c = at;
@@ -130,11 +138,8 @@ fn element_past(s: &[u8], at: usize) -> Past
 fn facing_past(s: &[u8], at: usize, n: u32) -> Past
     ensures { λ r. ⌜ LooseAt (now (s .entry)) at r (forget (facingOf (length (now (s .entry))) n (tokensFrom (now (s .entry)) at))) ⌝ }
 {
-    let p = words_past(s, at, Word::Hex, n);
-    match p {
-        Past::No(bad) => Past::No(bad),
-        Past::To(c) => words_past(s, c, Word::Hex, 2),
-    }
+    let words = n as usize + 2;
+    words_past(s, at, Word::Hex, words)
 }
 
 fn mixed_past(s: &[u8], at: usize) -> Past
@@ -158,12 +163,12 @@ fn row_past(s: &[u8], at: usize, row: Row) -> Past
         Row::Element => element_past(s, at),
         Row::Facing(n) => facing_past(s, at, n),
         Row::Mixed => mixed_past(s, at),
-        Row::Point(d) => words_past(s, at, Word::Decimal, d),
+        Row::Point(d) => words_past(s, at, Word::Decimal, d as usize),
     }
 }
 
-// n rows one behind the other.
-pub(crate) fn rows_past(s: &[u8], at: usize, row: Row, n: u32) -> Past
+// n rows one behind the other, row by row.
+fn rows_each(s: &[u8], at: usize, row: Row, n: u32) -> Past
     ensures { λ r. ⌜ LooseAt (now (s .entry)) at r (forget (rowsOf (length (now (s .entry))) (rowUnit (length (now (s .entry))) row) n (tokensFrom (now (s .entry)) at))) ⌝ }
 {
     let mut c = at;
@@ -180,4 +185,25 @@ pub(crate) fn rows_past(s: &[u8], at: usize, row: Row, n: u32) -> Past
         }
     }
     Past::To(c)
+}
+
+// n rows one behind the other. Rows of one width are so many words.
+pub(crate) fn rows_past(s: &[u8], at: usize, row: Row, n: u32) -> Past
+    ensures { λ r. ⌜ LooseAt (now (s .entry)) at r (forget (rowsOf (length (now (s .entry))) (rowUnit (length (now (s .entry))) row) n (tokensFrom (now (s .entry)) at))) ⌝ }
+{
+    let rows = n as usize;
+    match row {
+        Row::Element => rows_each(s, at, row, n),
+        Row::Facing(k) => {
+            let width = k as usize + 2;
+            let words = rows * width;
+            words_past(s, at, Word::Hex, words)
+        }
+        Row::Mixed => rows_each(s, at, row, n),
+        Row::Point(d) => {
+            let width = d as usize;
+            let words = rows * width;
+            words_past(s, at, Word::Decimal, words)
+        }
+    }
 }

@@ -4,7 +4,7 @@ use super::listed::is_in;
 use mesh::Face;
 ghost use mathlib.Core.Path.{_≡_};
 ghost use mathlib.Core.Bool.{_&&_};
-ghost use lib.Dec.{leb};
+ghost use lib.Dec.{leb, ltb};
 ghost use lib.ListN.{take, getD};
 ghost use Rattle.mesh.specs.Rows.{places};
 ghost use Rattle.faults.specs.Faults.{lookedAt, positionsOf, wrongCount, wrongNode, isIn, sideOf, isSame, isOpen, isLoose, hasFault, anyOfKind, anyFault};
@@ -143,13 +143,23 @@ pub fn has_fault(frame: Frame, face: Face, kind: u32, p: u32) -> bool
     false
 }
 
+fn is_fault_before(frame: Frame, face: Face, kind: u32, p: u32, end: u32) -> bool
+    ensures { λ r. ⌜ r ≡ (ltb p end && hasFault places frame face kind p) ⌝ }
+{
+    if p < end {
+        return has_fault(frame, face, kind, p);
+    }
+    false
+}
+
+// The loop ends at a constant, so that the compiler unrolls it: with the kind a constant too, a sound face costs a few comparisons.
 fn any_of_kind(frame: Frame, face: Face, kind: u32) -> bool
     ensures { λ r. ⌜ r ≡ anyOfKind places frame face kind ⌝ }
 {
     let end = positions(face, kind);
     let mut p: u32 = 0;
-    while p < end {
-        if has_fault(frame, face, kind, p) {
+    while p < PLACES {
+        if is_fault_before(frame, face, kind, p, end) {
             return true;
         }
         p += 1;

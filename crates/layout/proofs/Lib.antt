@@ -29,3 +29,4 @@ pub mod Enough
 pub mod FaceRows
 pub mod Errors
 pub mod Samples
+pub mod Only

@@ -15,7 +15,7 @@ use Rattle.numbers.specs.Value.{Means}
 use Rattle.numbers.proofs.Written.{readingOf-exactly}
 use Rattle.numbers.proofs.Value.{keep-exactly, same-pair}
 
-not-kept : {A : Type 0} (m e : ℤ) → Decimal.Not ≡ Decimal.Is m e → A
+pub not-kept : {A : Type 0} (m e : ℤ) → Decimal.Not ≡ Decimal.Is m e → A
 not-kept m e h = absurd (let z : _≡_ {A = ℕ} 0 1 = cc in omega arith)
 
 module _ (w : List ℕ) (m e : ℤ) where

@@ -12,5 +12,8 @@ mod Scanning
 mod Bases
 mod Kept
 mod Words
+pub mod AtOnce
+mod Leading
+pub mod Led
 pub mod Only
 pub mod Bad

@@ -2,6 +2,8 @@
 use mathlib.Core.Path.{sym, _∙_}
 use Rattle.facts.specs.Only.{Only}
 use Rattle.numbers.proofs.coordinates.coordinate.Reads as coordinate
+use Rattle.numbers.proofs.quick.hexes_in.Reads as hexes-in
+use Rattle.numbers.proofs.leads.lead.Reads as lead
 use Rattle.numbers.proofs.signed.magnitude.Reads as magnitude
 use Rattle.numbers.proofs.sort.bad_at.Reads as bad-at
 use Rattle.numbers.proofs.whole.hexadecimal.Reads as hexadecimal
@@ -16,8 +18,14 @@ section-id-only κ a r r′ x x′ p q = p ∙ sym q
 pub coordinate-only : Only coordinate.Post
 coordinate-only κ a r r′ x x′ p q = p ∙ sym q
 
+pub lead-only : Only lead.Post
+lead-only κ a r r′ x x′ p q = p ∙ sym q
+
 pub magnitude-only : Only magnitude.Post
 magnitude-only κ a r r′ x x′ p q = p ∙ sym q
 
 pub bad-at-only : Only bad-at.Post
 bad-at-only κ a r r′ x x′ p q = p ∙ sym q
+
+pub hexes-in-only : Only hexes-in.Post
+hexes-in-only κ a r r′ x x′ p q = p ∙ sym q

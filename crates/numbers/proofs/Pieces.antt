@@ -106,7 +106,7 @@ mark-is : (b : ℕ) → (b ≡ 101) ⊎ (b ≡ 69) → isMark b ≡ true
 mark-is b (inl e) = rw e
 mark-is b (inr e) = rw e
 
-is-mark : (b : ℕ) → isMark b ≡ true → (b ≡ 101) ⊎ (b ≡ 69)
+pub is-mark : (b : ℕ) → isMark b ≡ true → (b ≡ 101) ⊎ (b ≡ 69)
 is-mark b = marked (eqb b 101) (eqb b 69) (eqb-true b 101) (eqb-true b 69)
   where
     marked : (p q : Bool) → (p ≡ true → b ≡ 101) → (q ≡ true → b ≡ 69) → (p || q) ≡ true → (b ≡ 101) ⊎ (b ≡ 69)
@@ -143,6 +143,15 @@ powerOf-part [] k e = let z : k ≡ pos 0 = cc in rw z unpowered
 powerOf-part (b ∷ w) k e =
     either (λ q. q ≡ Power.Is k → PowerText (b ∷ w) k) (isMark b) (λ m e. marked-part b w k m e)
     (λ _ e. absurd (let z : _≡_ {A = ℕ} 0 1 = cc in omega arith)) e
+
+-- and some bytes may stand behind the text
+pub record Powers (r : List ℕ) (k : ℤ) (rest : List ℕ) : Type 0 where
+  pub text : List ℕ
+  pub parted : r ≡ text ++ rest
+  pub powers : PowerText text k
+
+pub powerOf-all : (r : List ℕ) (k : ℤ) → powerOf r ≡ Power.Is k → Powers r k []
+powerOf-all r k e = record { text = r; parted = sym (append-nil r); powers = powerOf-part r k e }
 
 -- ---- digits behind a point
 pub fractionIn-none : (v : ℕ) (r : List ℕ) → Begins NoPoint r → fractionIn v r ≡ digits v 0 r

@@ -22,38 +22,43 @@ module _ (w : List ℕ) where
   unfolding coordinateOf
   long-not h = rw (lt-leb (length w) 64 h, coordinateOf)
 
-  short-is : length w ≤ 64 → kept (readingOf w) ≡ coordinateOf w
+  pub short-is : length w ≤ 64 → kept (readingOf w) ≡ coordinateOf w
   unfolding coordinateOf
   short-is h = rw (le-leb (length w) 64 h, coordinateOf)
 
 module _ (n : Bool) (c : ℕ) (b : Digits) where
-  no-digits : (q : Power) → c + b .count ≡ 0 → readingBy n c b q ≡ none
+  pub no-digits : (q : Power) → c + b .count ≡ 0 → readingBy n c b q ≡ none
   no-digits (Power.Is k) h = rw (eq-eqb (c + b .count) 0 h, readingBy)
   no-digits Power.Not h = refl
 
-  some-digits : (q : Power) → (c + b .count ≡ 0 → ⊥) → kept (readingBy n c b q) ≡ keepBy n (b .value) (b .count) q
+  pub some-digits : (q : Power) → (c + b .count ≡ 0 → ⊥) → kept (readingBy n c b q) ≡ keepBy n (b .value) (b .count) q
   some-digits (Power.Is k) h = rw (ne-eqb (c + b .count) 0 h, readingBy)
   some-digits Power.Not h = refl
 
-abbrev start : ℕ → Scan
+abbrev pub start : ℕ → Scan
 start at = scan 0 0 false 0 at
 
 start-stands : (at : ℕ) → Stands (start at) 0
 start-stands at = record { less = lit< tt; room = λ _. refl; exact = λ _. sym (zero-mul (10 ^ 0)); wide = λ o. differ false o refl }
 
+-- the digits behind a sign
+pub digits-shown : (w : List ℕ) (at : ℕ) (s : Sign) → SignAt w at s → (x : Scan)
+    → Scanned w (start (s .next)) x (λ v. digitsIn 10 v 0 (drop (s .next) w)) → Shows w x (frontOf (drop at w))
+digits-shown w at s g x a = rw (ap (λ (x : Signed). digitsIn 10 0 0 (x .rest)) (g .says)) at (a .shows 0 (start-stands (s .next)))
+
 module _ (w : List ℕ) (l : length w ≤ 64) (s : Sign) (g : SignAt w 0 s) where
   module _ (front : Scan) (a : Scanned w (start (s .next)) front (λ v. digitsIn 10 v 0 (drop (s .next) w))) where
     front-shows : Shows w front (frontOf w)
-    front-shows = rw (ap (λ (x : Signed). digitsIn 10 0 0 (x .rest)) (g .says)) at (a .shows 0 (start-stands (s .next)))
+    front-shows = digits-shown w 0 s g front a
 
     module _ (back : Scan) (b : Scanned w front back (λ v. fractionIn v (drop (front .next) w))) where
-      back-shows : Shows w back (backOf w)
+      pub back-shows : Shows w back (backOf w)
       back-shows = rw (ap (fractionIn (frontOf w .value)) (front-shows .rest)) at (b .shows (frontOf w .value) (front-shows .value))
 
       pub back-ready : Ready back
       back-ready = record { less = back-shows .value .less; tail = omega (arith, b .fair); count = omega (arith, b .fair) }
 
-      counts : front .count + back .count ≡ frontOf w .count + backOf w .count
+      pub counts : front .count + back .count ≡ frontOf w .count + backOf w .count
       counts = omega (arith, front-shows .count, back-shows .count)
 
       pub none-is : front .count + back .count ≡ 0 → Decimal.Not ≡ coordinateOf w

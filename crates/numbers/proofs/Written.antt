@@ -12,7 +12,7 @@ use lib.IntN.{ℤ}
 use Rattle.facts.proofs.Branch.{either}
 use Rattle.numbers.specs.declared.power.Power.{Power}
 use Rattle.numbers.specs.Whole.{digitOf, Digits}
-use Rattle.numbers.specs.Coordinate.{Signed, signIn, fractionIn, powerOf, Parts, is, partsOf, readingBy, readingOf}
+use Rattle.numbers.specs.Coordinate.{Signed, signIn, fractionIn, powerOf, Parts, is, partsOf, readingBy, frontOf, backOf, readingOf}
 use Rattle.numbers.specs.Value.{Figures, worth, SignText, PointText, plain, pointed, PowerText, Written}
 use Rattle.numbers.proofs.Digits.{NoDigit, digitsIn-exact, digitsIn-part, worth-append, figures-append, figures-left, figures-right}
 use Rattle.numbers.proofs.Pieces.{
@@ -24,7 +24,8 @@ use Rattle.numbers.proofs.Pieces.{
   Signs,
   signIn-part,
   powerOf-exact,
-  powerOf-part,
+  Powers,
+  powerOf-all,
   fractionIn-none,
   Fraction,
   no-point,
@@ -70,64 +71,93 @@ written-read w p h = ap readingOf (h .whole) ∙ by-points (h .points) (h .digit
         rw (append-assoc a (46 ∷ b) (h .power), worth-append 10 a b 0)
         (with-point (h .signs) (h .powers) a b (figures-left 10 a b f) (figures-right 10 a b f) l)
 
-record Read (n : Bool) (c : ℕ) (b : Digits) (q : Power) (p : Parts) : Type 0 where
+pub record Read (n : Bool) (c : ℕ) (b : Digits) (q : Power) (p : Parts) : Type 0 where
   pub tens : ℤ
   pub power : q ≡ Power.Is tens
   pub some : 1 ≤ c + b .count
   pub says : p ≡ partsOf n (b .value) (b .count) tens
 
-read-is : (n : Bool) (c : ℕ) (b : Digits) (q : Power) (p : Parts) → readingBy n c b q ≡ is p → Read n c b q p
+pub read-is : (n : Bool) (c : ℕ) (b : Digits) (q : Power) (p : Parts) → readingBy n c b q ≡ is p → Read n c b q p
 read-is n c b Power.Not p e = absurd (let z : _≡_ {A = ℕ} 0 1 = cc in omega arith)
 read-is n c b (Power.Is k) p e =
     either (λ r. r ≡ is p → Read n c b (Power.Is k) p) (eqb (c + b .count) 0) (λ _ e. absurd (let z : _≡_ {A = ℕ} 0 1 = cc in omega arith))
     (λ z e. record { tens = k; power = refl; some = omega (arith, eqb-false (c + b .count) 0 z); says = cc }) e
 
+-- a word that is written so, and these bytes behind it
+pub record Begun (w : List ℕ) (p : Parts) (rest : List ℕ) : Type 0 where
+  pub word : List ℕ
+  pub parted : w ≡ word ++ rest
+  pub written : Written word p
+
+seam : (a b c r : List ℕ) → a ++ (b ++ (c ++ r)) ≡ (a ++ (b ++ c)) ++ r
+seam a b c r = sym (append-assoc a (b ++ c) r ∙ ap (λ l. a ++ l) (append-assoc b c r))
+
 module _ (w : List ℕ) (p : Parts) {g : Signed} (s : Signs w g) {c : ℕ} (run : List ℕ) (f : Figures 10 run) (count : c ≡ 0 + length run) where
-  by-fraction : {v : ℕ} {r : List ℕ} {b : Digits} → g .rest ≡ run ++ r → v ≡ worth 10 0 run → Fraction v r b
-      → Read (g .negative) c b (powerOf (b .rest)) p → Written w p
-  by-fraction {r = t} e v no-point r =
+  by-fraction : {v : ℕ} {r : List ℕ} {b : Digits} {x : Power} {rest : List ℕ} → g .rest ≡ run ++ r → v ≡ worth 10 0 run → Fraction v r b
+      → (q : Read (g .negative) c b x p) → Powers (b .rest) (q .tens) rest → Begun w p rest
+  by-fraction {rest = rest} e v no-point r t =
       record {
-        sign = s .text;
-        text = run;
-        power = t;
-        before = run;
-        behind = [];
-        negative = g .negative;
-        tens = r .tens;
-        whole = s .parted ∙ ap (λ l. s .text ++ l) e;
-        signs = s .signs;
-        points = plain;
-        powers = powerOf-part t (r .tens) (r .power);
-        digits = rw append-nil f;
-        some = omega (arith, r .some, count);
-        says = r .says ∙ ap (λ v. partsOf (g .negative) v 0 (r .tens)) (v ∙ ap (worth 10 0) (sym (append-nil run)));
+        word = s .text ++ (run ++ t .text);
+        parted = s .parted ∙ ap (λ l. s .text ++ l) (e ∙ ap (λ l. run ++ l) (t .parted)) ∙ seam (s .text) run (t .text) rest;
+        written = record {
+          sign = s .text;
+          text = run;
+          power = t .text;
+          before = run;
+          behind = [];
+          negative = g .negative;
+          tens = r .tens;
+          whole = refl;
+          signs = s .signs;
+          points = plain;
+          powers = t .powers;
+          digits = rw append-nil f;
+          some = omega (arith, r .some, count);
+          says = r .says ∙ ap (λ v. partsOf (g .negative) v 0 (r .tens)) (v ∙ ap (worth 10 0) (sym (append-nil run)));
+        };
       }
-  by-fraction {b = d} e v (a-point {b = c} {r = t} q u) r =
-      let behind : run ++ (c ∷ t) ≡ run ++ (46 ∷ (u .run ++ d .rest)) = ap (λ l. run ++ l) (rw q (ap (λ l. 46 ∷ l) (u .parted))) in
+  by-fraction {b = d} {rest = rest} e v (a-point {b = c} {r = y} q u) r t =
+      let behind : run ++ (c ∷ y) ≡ run ++ (46 ∷ (u .run ++ d .rest)) = ap (λ l. run ++ l) (rw q (ap (λ l. 46 ∷ l) (u .parted))) in
+      let text = run ++ (46 ∷ u .run) in
       let n : d .count ≡ length (u .run) = omega (arith, u .count) in
       let x : d .value ≡ worth 10 0 (run ++ u .run) = u .value ∙ ap (λ v. worth 10 v (u .run)) v ∙ sym (worth-append 10 run (u .run) 0) in
       record {
-        sign = s .text;
-        text = run ++ (46 ∷ u .run);
-        power = d .rest;
-        before = run;
-        behind = u .run;
-        negative = g .negative;
-        tens = r .tens;
-        whole = s .parted ∙ ap (λ l. s .text ++ l) (e ∙ behind ∙ sym (append-assoc run (46 ∷ u .run) (d .rest)));
-        signs = s .signs;
-        points = pointed;
-        powers = powerOf-part (d .rest) (r .tens) (r .power);
-        digits = figures-append 10 run (u .run) f (u .figures);
-        some = omega (arith, r .some, count, n);
-        says = r .says ∙ rw (x, n);
+        word = s .text ++ (text ++ t .text);
+        parted =
+            s .parted
+            ∙ ap (λ l. s .text ++ l) (e ∙ behind ∙ sym (append-assoc run (46 ∷ u .run) (d .rest)) ∙ ap (λ l. text ++ l) (t .parted))
+            ∙ seam (s .text) text (t .text) rest;
+        written = record {
+          sign = s .text;
+          text = text;
+          power = t .text;
+          before = run;
+          behind = u .run;
+          negative = g .negative;
+          tens = r .tens;
+          whole = refl;
+          signs = s .signs;
+          points = pointed;
+          powers = t .powers;
+          digits = figures-append 10 run (u .run) f (u .figures);
+          some = omega (arith, r .some, count, n);
+          says = r .says ∙ rw (x, n);
+        };
       }
+
+-- the parts that are read are written at the start of the bytes
+pub begun : (w : List ℕ) (p : Parts) {x : Power} {rest : List ℕ} (q : Read (signIn w .negative) (frontOf w .count) (backOf w) x p)
+    → Powers (backOf w .rest) (q .tens) rest → Begun w p rest
+begun w p q t =
+    let f = digitsIn-part 10 (signIn w .rest) 0 0 in
+    by-fraction w p (signIn-part w) (f .run) (f .figures) (f .count) (f .parted) (f .value) (fractionIn-part _ _) q t
 
 read-written : (w : List ℕ) (p : Parts) → readingOf w ≡ is p → Written w p
 unfolding readingOf
 read-written w p e =
-    let f = digitsIn-part 10 (signIn w .rest) 0 0 in
-    by-fraction w p (signIn-part w) (f .run) (f .figures) (f .count) (f .parted) (f .value) (fractionIn-part _ _) (read-is _ _ _ _ p e)
+    let q = read-is (signIn w .negative) (frontOf w .count) (backOf w) (powerOf (backOf w .rest)) p e in
+    let b = begun w p q (powerOf-all (backOf w .rest) (q .tens) (q .power)) in
+    rw (b .parted ∙ append-nil (b .word)) (b .written)
 
 -- the word is read as these parts exactly when it is written so
 pub readingOf-exactly : (w : List ℕ) (p : Parts) → (readingOf w ≡ is p) ↔ Written w p

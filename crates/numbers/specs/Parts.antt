@@ -10,12 +10,14 @@ use lib.Signed.{mag}
 use Rattle.sizes.specs.Sizes.{coordinateBytes, coordinateDigits}
 use Rattle.numbers.specs.declared.whole.Whole.{Whole}
 use Rattle.numbers.specs.declared.power.Power.{Power}
+use Rattle.numbers.specs.declared.power.PowerLead.{PowerLead}
 use Rattle.numbers.specs.declared.scan.Sign.{Sign}
 use Rattle.numbers.specs.declared.scan.Scan.{Scan}
 use Rattle.numbers.specs.declared.decimal.Cut.{Cut}
 use Rattle.numbers.specs.declared.decimal.Decimal.{Decimal}
 use Rattle.numbers.specs.Whole.{Digits}
 use Rattle.numbers.specs.Coordinate.{signed, signIn, keep}
+use Rattle.numbers.specs.Lead.{Leading, leading}
 
 -- does the list begin with this byte
 unfoldable pub starts : ℕ → List ℕ → Bool
@@ -25,6 +27,11 @@ starts b (c ∷ w) = eqb c b
 -- the sign at a place of the word: the next place stands for the bytes from there on
 pub record SignAt (w : List ℕ) (at : ℕ) (r : Sign) : Type 0 where
   pub says : signed (r .negative) (drop (r .next) w) ≡ signIn (drop at w)
+  pub within : r .next ≤ length w
+
+-- a power that was read at a place of the word: again the next place stands for the bytes from there on
+pub record PowerAt (w : List ℕ) (r : PowerLead) (l : Leading) : Type 0 where
+  pub says : leading (r .power) (drop (r .next) w) ≡ l
   pub within : r .next ≤ length w
 
 -- d is core · 10 ^ zeros with more than 18 digits in core, of which the last is not 0

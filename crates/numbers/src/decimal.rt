@@ -16,6 +16,12 @@ pub enum Decimal {
     Not,
 }
 
+// A coordinate at the start of some bytes, and the place behind it.
+pub struct Lead {
+    pub decimal: Decimal,
+    pub next: usize,
+}
+
 pub(crate) struct Cut {
     pub m: u64,
     pub zeros: u32,

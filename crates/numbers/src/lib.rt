@@ -3,7 +3,9 @@
 mod coordinates;
 mod decimal;
 mod digit;
+mod leads;
 mod power;
+mod quick;
 mod scan;
 mod signed;
 mod sort;
@@ -11,6 +13,10 @@ mod whole;
 
 pub use coordinates::coordinate;
 pub use decimal::Decimal;
+pub use decimal::Lead;
+pub use leads::lead;
+pub use quick::Hexes;
+pub use quick::hexes_in;
 pub use signed::magnitude;
 pub use sort::Sort;
 pub use sort::bad_at;

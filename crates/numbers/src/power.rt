@@ -3,7 +3,10 @@ ghost use mathlib.Core.Path.{_≡_};
 ghost use Prim.Native.Nat.{_≤_};
 ghost use lib.ListN.{length, drop};
 ghost use Rattle.numbers.specs.Coordinate.{isMark, powerBy, markedOf, powerOf};
-ghost use Rattle.numbers.specs.Parts.{Below};
+ghost use Rattle.numbers.specs.Lead.{markedIn, powerIn};
+ghost use Rattle.numbers.specs.Parts.{Below, PowerAt};
+use super::scan::Scan;
+use super::scan::digits_from;
 use super::scan::sign_at;
 use super::signed::with_sign32;
 use super::whole::Whole;
@@ -12,6 +15,12 @@ use super::whole::whole_of;
 pub(crate) enum Power {
     Is(i32),
     Not,
+}
+
+// A power, and the place behind it.
+pub(crate) struct PowerLead {
+    pub power: Power,
+    pub next: usize,
 }
 
 fn is_mark(b: u8) -> bool
@@ -54,4 +63,60 @@ pub(crate) fn power_at(w: &[u8], at: usize) -> Power
         return marked_at(w, behind);
     }
     Power::Not
+}
+
+// Behind the `e`, whatever follows: an optional sign and all digits, of which 1 to 3 are a power.
+fn marked_lead(w: &[u8], at: usize) -> PowerLead
+    requires { ⌜ (length (now w) ≤ 64) × (at ≤ length (now w)) ⌝ }
+    ensures { λ r. ⌜ PowerAt (now (w .entry)) r (markedIn (drop at (now (w .entry)))) ⌝ }
+{
+    let s = sign_at(w, at);
+    let d = digits_from(
+        w,
+        Scan {
+            m: 0,
+            tail: 0,
+            over: false,
+            count: 0,
+            next: s.next,
+        },
+    );
+    if d.count < 1 {
+        return PowerLead {
+            power: Power::Not,
+            next: d.next,
+        };
+    }
+    if 3 < d.count {
+        return PowerLead {
+            power: Power::Not,
+            next: d.next,
+        };
+    }
+    let k = with_sign32(s.negative, d.m as u32);
+    PowerLead {
+        power: Power::Is(k),
+        next: d.next,
+    }
+}
+
+// The power from `at` on, whatever follows it. With no `e` there is none, and nothing is passed.
+pub(crate) fn power_lead(w: &[u8], at: usize) -> PowerLead
+    requires { ⌜ (length (now w) ≤ 64) × (at ≤ length (now w)) ⌝ }
+    ensures { λ r. ⌜ PowerAt (now (w .entry)) r (powerIn (drop at (now (w .entry)))) ⌝ }
+{
+    if w.len() <= at {
+        return PowerLead {
+            power: Power::Is(0),
+            next: at,
+        };
+    }
+    if is_mark(w[at]) {
+        let behind = at + 1;
+        return marked_lead(w, behind);
+    }
+    PowerLead {
+        power: Power::Is(0),
+        next: at,
+    }
 }

@@ -117,26 +117,6 @@ pub(crate) fn print_zones(flat: &[u32], zones: usize) {
     }
 }
 
-// The paper's number.
-fn number_of(why: Refusal) -> u64 {
-    match why {
-        Refusal::TooLong => 1,
-        Refusal::Grammar => 2,
-        Refusal::Number => 3,
-        Refusal::Binary => 4,
-        Refusal::Undeclared => 5,
-        Refusal::Range => 6,
-        Refusal::TableRoom => 7,
-        Refusal::Overlap => 8,
-        Refusal::Type => 9,
-        Refusal::Dimension => 10,
-        Refusal::ZoneRoom => 11,
-        Refusal::Depth => 12,
-        Refusal::Missing => 13,
-        Refusal::Untiled => 14,
-    }
-}
-
 pub(crate) fn print_reply(reply: Reply) {
     match reply {
         Reply::Accepted {
@@ -159,7 +139,7 @@ pub(crate) fn print_reply(reply: Reply) {
             section,
             offset,
         } => {
-            io::print_decimal(STDOUT_FILENO, number_of(why));
+            io::print_decimal(STDOUT_FILENO, layout::number_of(why) as u64);
             put_number(wide(section));
             put_number(offset as u64);
             put(b" 0 0 0 0 0\n");

@@ -19,12 +19,6 @@ module _ {A : Type 0} where
   pub sets-behind : (xs ys l : List A) (k j : ℕ) → j ≡ k + length xs → sets (sets l k xs) j ys ≡ sets l k (xs ++ ys)
   sets-behind xs ys l k j e = ap (λ i. sets (sets l k xs) i ys) e ∙ sets-append xs ys l k
 
-  pub take-all : (xs : List A) (n : ℕ) → length xs ≡ n → take n xs ≡ xs
-  take-all [] zero e = refl
-  take-all [] (suc n) e = refl
-  take-all (x ∷ xs) zero e = absurd (omega arith)
-  take-all (x ∷ xs) (suc n) e = ap (λ r. x ∷ r) (take-all xs n (omega arith))
-
   take-zeros : (d : A) (n m : ℕ) → n ≤ m → take n (replicate m d) ≡ replicate n d
   take-zeros d zero m h = refl
   take-zeros d (suc n) zero h = absurd (omega arith)

@@ -53,21 +53,34 @@ zeros-are n = repeated 0 n
 
 -- ---- single words and rows
 row-is : (n t k r l : ℕ) (ns old : List ℕ) → n ≤ places → length ns ≡ n
-    → set (set (set (sets (sets (set old k n) (k + 1) ns) (k + 1 + n) (replicate (4 - n) 0)) (k + 5) r) (k + 6) l) (k + 7) t
+    → set (sets (sets (sets (set old k n) (k + 1) ns) (k + 1 + n) (replicate (4 - n) 0)) (k + 5) (r ∷ l ∷ [])) (k + 7) t
     ≡ sets old k (faceRow places t (record { corners = ns; right = r; left = l }))
 row-is n t k r l ns old h e =
     let a : sets (sets (set old k n) (k + 1) ns) (k + 1 + n) (replicate (4 - n) 0) ≡ sets (set old k n) (k + 1) (pad places 0 ns) =
     sets-behind ns (replicate (4 - n) 0) (set old k n) (k + 1) (k + 1 + n) (ap (λ m. k + 1 + m) (sym e))
     ∙ ap (λ m. sets (set old k n) (k + 1) (ns ++ replicate (4 - m) 0)) (sym e) ∙ ap (sets (set old k n) (k + 1)) (sym (pad-is places 0 ns (omega arith))) in
-    let b : k + 6 ≡ suc (k + 5) = omega arith in
     let c : k + 7 ≡ suc (suc (k + 5)) = omega arith in
     let d : k + 1 ≡ suc k = omega arith in
-    ap (λ o. set (set (set o (k + 5) r) (k + 6) l) (k + 7) t) a
-    ∙ ap (λ i. set (set (set (sets (set old k n) (k + 1) (pad places 0 ns)) (k + 5) r) i l) (k + 7) t) b
-    ∙ ap (λ i. set (set (set (sets (set old k n) (k + 1) (pad places 0 ns)) (k + 5) r) (suc (k + 5)) l) i t) c
+    ap (λ o. set (sets o (k + 5) (r ∷ l ∷ [])) (k + 7) t) a
+    ∙ ap (λ i. set (sets (sets (set old k n) (k + 1) (pad places 0 ns)) (k + 5) (r ∷ l ∷ [])) i t) c
     ∙ sets-behind (pad places 0 ns) (r ∷ l ∷ t ∷ []) (set old k n) (k + 1) (k + 5) (omega (arith, pad-length places 0 ns))
     ∙ ap (λ i. sets (set old k n) i (pad places 0 ns ++ (r ∷ l ∷ t ∷ []))) d
     ∙ ap (λ m. sets (set old k m) (suc k) (pad places 0 ns ++ (r ∷ l ∷ t ∷ []))) (sym e)
+
+-- two things read as a list are the two things
+module _ {A B : Type 0} (F : A → A → B) (P : List A → List Tok → Type 0) (Q : B → List Tok → Type 0) (h : (a b : A) (us : List Tok) → P (a ∷ b ∷ []) us → Q (F a b) us) where
+  second-then : (a : A) (g : Got A) → Then (next (next g (λ b. pure (b ∷ []))) (λ xs. pure (a ∷ xs))) P → Then (next g (λ b. pure (F a b))) Q
+  second-then a (got b us) p = h a b us p
+  second-then a (bad w o) p = tt
+
+  first-then : (g : Got A) (k : Reader A) → Then (next g (λ a us. next (next (k us) (λ b. pure (b ∷ []))) (λ xs. pure (a ∷ xs)))) P → Then (next g (λ a us. next (k us) (λ b. pure (F a b)))) Q
+  first-then (got a us) k p = second-then a (k us) p
+  first-then (bad w o) k p = tt
+
+two-then : {A B : Type 0} (g : Got A) (k : Reader A) (F : A → A → B) (P : List A → List Tok → Type 0) (Q : B → List Tok → Type 0)
+    → Then (next g (λ a us. next (next (k us) (λ b. pure (b ∷ []))) (λ xs. pure (a ∷ xs)))) P → ((a b : A) (us : List Tok) → P (a ∷ b ∷ []) us → Q (F a b) us)
+    → Then (next g (λ a us. next (k us) (λ b. pure (F a b)))) Q
+two-then g k F P Q p h = first-then F P Q h g k p
 
 -- a row of two words
 pub two-put : (a t k : ℕ) (old mid : List ℕ) {new : List ℕ} → mid ≡ set old k a → new ≡ set mid (k + 1) t → new ≡ sets old k (a ∷ t ∷ [])
@@ -90,22 +103,24 @@ module _ (s : List ℕ) (at : ℕ) where
       (λ x y. then-check (leb 1 (x .value) && leb (x .value) 6) Refusal.Type (x .at) (pure (x .value)) (tokensFrom s to) (λ e us. (new ≡ sets old k (e ∷ t ∷ [])) × (tokensFrom s to ≡ us))
       (λ _. (two-put v t k old mid p q ∙ ap (λ e. sets old k (e ∷ t ∷ [])) y, refl)))
 
-  pub facing-put : (n t k c₁ c₂ to : ℕ) (old a b d e f : List ℕ) {new : List ℕ} → n ≤ places → a ≡ set old k n
-      → Steps s at c₁ (rowsOf (length s) (hexOf (length s)) n (tokensFrom s at)) (λ ns. b ≡ sets a (k + 1) ns)
+  pub facing-put : (n t k c to : ℕ) (old a b d e : List ℕ) {new : List ℕ} → n ≤ places → a ≡ set old k n
+      → Steps s at c (rowsOf (length s) (hexOf (length s)) n (tokensFrom s at)) (λ ns. b ≡ sets a (k + 1) ns)
       → d ≡ sets b (k + 1 + n) (replicate (4 - n) 0)
-      → Steps s c₁ c₂ (hexOf (length s) (tokensFrom s c₁)) (λ v. e ≡ sets d (k + 5) (v ∷ []))
-      → Steps s c₂ to (hexOf (length s) (tokensFrom s c₂)) (λ v. f ≡ sets e (k + 6) (v ∷ []))
-      → new ≡ set f (k + 7) t
+      → Steps s c to (rowsOf (length s) (hexOf (length s)) 2 (tokensFrom s c)) (λ vs. e ≡ sets d (k + 5) vs)
+      → new ≡ set e (k + 7) t
       → Steps s at to (facingOf (length s) n (tokensFrom s at)) (λ x. new ≡ sets old k (faceRow places t x))
-  unfolding facingOf
-  facing-put n t k c₁ c₂ to old a b d e f {new} l p h₁ q h₂ h₃ w =
+  unfolding facingOf rowsOf
+  facing-put n t k c to old a b d e {new} l p h₁ q h₂ w =
       steps-next s at (rowsOf (length s) (hexOf (length s)) n (tokensFrom s at)) _ (IsRow new old k t)
       (steps-with s at (rowsOf (length s) (hexOf (length s)) n (tokensFrom s at)) h₁ (rows-length (length s) (hexOf (length s)) n (tokensFrom s at)))
-      (omega (arith, h₂ .from, h₃ .from))
-      (λ ns y. steps-next s c₁ (hexOf (length s) (tokensFrom s c₁)) _ (IsRow new old k t) h₂ (h₃ .from)
-      (λ r z. steps-pure s c₂ (hexOf (length s) (tokensFrom s c₂)) (λ x. record { corners = ns; right = r; left = x }) (IsRow new old k t) h₃
-      (λ x u. w ∙ ap (λ o. set o (k + 7) t) (u ∙ ap (λ o. set o (k + 6) x) (z ∙ ap (λ o. set o (k + 5) r) (q ∙ ap (λ o. sets o (k + 1 + n) (replicate (4 - n) 0)) (y .0 ∙ ap (λ o. sets o (k + 1) ns) p))))
-      ∙ row-is n t k r x ns old l (y .1)) .says) .says)
+      (h₂ .from)
+      (λ ns y. two-then (hexOf (length s) (tokensFrom s c)) (hexOf (length s)) (λ r x. record { corners = ns; right = r; left = x })
+      (λ vs us. (e ≡ sets d (k + 5) vs) × (tokensFrom s to ≡ us)) (λ x us. IsRow new old k t x × (tokensFrom s to ≡ us)) (h₂ .says)
+      (λ r x us v. (
+        w ∙ ap (λ o. set o (k + 7) t) (v .0 ∙ ap (λ o. sets o (k + 5) (r ∷ x ∷ [])) (q ∙ ap (λ o. sets o (k + 1 + n) (replicate (4 - n) 0)) (y .0 ∙ ap (λ o. sets o (k + 1) ns) p)))
+            ∙ row-is n t k r x ns old l (y .1),
+        v .1,
+      )))
 
   pub mixed-put : (n m to t k : ℕ) (old : List ℕ) {new : List ℕ} → Steps s at m (hexWord (length s) (tokensFrom s at)) (λ x. n ≡ x .value)
       → Steps s m to (facingOf (length s) n (tokensFrom s m)) (λ x. new ≡ sets old k (faceRow places t x))

@@ -1,6 +1,6 @@
 -- The records of a flat table, laid at the start of a list, are the zone records that the table was made of. Assumes nothing.
 use Prim.Native.Nat.{ℕ, zero, suc, _+_, _*_, _≤_, _<_}
-use native.Mathlib.Nat.{le-refl, add-zero}
+use native.Mathlib.Nat.{le-refl}
 use native.Mathlib.Omega.{arith}
 use mathlib.Core.Path.{_≡_, refl, sym, ap, _∙_}
 use mathlib.Core.List.{List, [], _∷_, _++_}
@@ -13,17 +13,11 @@ use Rattle.layout.specs.Rows.{noZone, zonesOf, Lent}
 use Rattle.layout.specs.State.{State}
 use Rattle.layout.specs.Read.{Result, accepted, refused, lay, resultOf}
 use Rattle.reader.specs.Found.{wordsOf, flatOf, blank, coreBy}
+use Rattle.reader.proofs.Puts.{sets-append}
 use Rattle.reader.proofs.Through.{tablesIn, withZones}
 use Rattle.reader.specs.Zones.{zoneAt, filled}
 
--- one store more, behind a run of stores
-sets-more : {A : Type 0} (l : List A) (i : ℕ) (vs : List A) (a : A) → sets l i (vs ++ (a ∷ [])) ≡ set (sets l i vs) (i + length vs) a
-sets-more l i [] a = rw add-zero
-sets-more l i (v ∷ vs) a =
-    let z : i + suc (length vs) ≡ suc i + length vs = omega arith in
-    rw z (sets-more (set l i v) (suc i) vs a)
-
-flat-length : (zs : List Zone) → length (flatOf zs) ≡ length zs * 6
+pub flat-length : (zs : List Zone) → length (flatOf zs) ≡ length zs * 6
 flat-length [] = refl
 flat-length (z ∷ zs) = let h = flat-length zs in omega (arith, h)
 
@@ -54,7 +48,7 @@ filled-take t zs old says (suc n) h =
     let short : length (take n zs) ≡ n = length-take-le n zs (omega arith) in
     let long : 0 + length (take n zs) ≡ n = omega (arith, short) in
     ap (λ (l : List Zone). set l n (zoneAt t n)) (filled-take t zs old says n (omega arith)) ∙ ap (λ (z : Zone). set (sets old 0 (take n zs)) n z) (says n (omega arith))
-    ∙ ap (λ (k : ℕ). set (sets old 0 (take n zs)) k (getD zs n noZone)) (sym long) ∙ sym (sets-more old 0 (take n zs) (getD zs n noZone))
+    ∙ ap (λ (k : ℕ). set (sets old 0 (take n zs)) k (getD zs n noZone)) (sym long) ∙ sets-append (take n zs) (getD zs n noZone ∷ []) old 0
     ∙ ap (λ (l : List Zone). sets old 0 l) (sym (take-suc zs n noZone (omega arith)))
 
 -- over any table with room

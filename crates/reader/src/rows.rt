@@ -74,13 +74,11 @@ fn put_facing(s: &[u8], at: usize, n: u32, ztype: u32, rows: &mut [u32], k: usiz
     let behind = nodes + used;
     let spare = 4 - n;
     put_zeros(rows, behind, spare);
-    let right = k + 5;
-    let d = put_word(s, c, rows, right);
-    let left = k + 6;
-    let e = put_word(s, d, rows, left);
+    let cells = k + 5;
+    let d = put_words(s, c, 2, rows, cells);
     let last = k + 7;
     store(rows, last, ztype);
-    e
+    d
 }
 
 // A face that says its number of nodes. More than there are places stand in no good file.

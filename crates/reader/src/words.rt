@@ -11,6 +11,7 @@ use steps::Close;
 use steps::Num;
 use steps::Pair;
 use steps::Past;
+use steps::Quick;
 
 // A number and the place behind it.
 pub struct Value {
@@ -42,7 +43,11 @@ pub(crate) fn value_at(s: &[u8], at: usize, sort: Sort) -> Value
 pub(crate) fn hex_at(s: &[u8], at: usize) -> Value
     ensures { λ r. ⌜ Steps (now (s .entry)) at (r .next) (hexOf (length (now (s .entry))) (tokensFrom (now (s .entry)) at)) (λ v. r .value ≡ v) ⌝ }
 {
-    value_at(s, at, Sort::Hexadecimal)
+    let q = steps::quick_hex(s, at);
+    match q {
+        Quick::Is { value, next } => Value { value, next },
+        Quick::Not => value_at(s, at, Sort::Hexadecimal),
+    }
 }
 
 pub(crate) fn coordinate_at(s: &[u8], at: usize) -> Coordinate

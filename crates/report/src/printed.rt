@@ -17,32 +17,10 @@ use audit::Audited;
 use layout::Refusal;
 use layout::Reply;
 
-// The paper's number of a refusal.
-fn number_of(why: Refusal) -> usize
-    ensures { λ r. ⌜ r ≡ numberOf why ⌝ }
-{
-    match why {
-        Refusal::TooLong => 1,
-        Refusal::Grammar => 2,
-        Refusal::Number => 3,
-        Refusal::Binary => 4,
-        Refusal::Undeclared => 5,
-        Refusal::Range => 6,
-        Refusal::TableRoom => 7,
-        Refusal::Overlap => 8,
-        Refusal::Type => 9,
-        Refusal::Dimension => 10,
-        Refusal::ZoneRoom => 11,
-        Refusal::Depth => 12,
-        Refusal::Missing => 13,
-        Refusal::Untiled => 14,
-    }
-}
-
 fn put_refusal(out: &mut [u8], why: Refusal, section: u32, offset: usize) -> usize
     ensures { λ r. ⌜ Wrote (now (out .entry)) 0 (line (bytes "refused") (numberOf why ∷ section ∷ offset ∷ [])) (now (out .exit)) r ⌝ }
 {
-    let number = number_of(why);
+    let number = layout::number_of(why) as usize;
     let k = section as usize;
     put_line(out, b"refused", number, k, offset)
 }

@@ -7,7 +7,7 @@ use Rattle.steps.specs.Heads.{headView}
 use Rattle.steps.proofs.step.left_at.Reads as left-at
 use Rattle.steps.proofs.step.right_at.Reads as right-at
 use Rattle.steps.proofs.step.number_at.Reads as number-at
-use Rattle.steps.proofs.step.pair_at.Reads as pair-at
+use Rattle.steps.proofs.quick.pair_at.Reads as pair-at
 use Rattle.steps.proofs.skip.skip_from.Reads as skip-from
 use Rattle.steps.proofs.head.head_at.Reads as head-at
 

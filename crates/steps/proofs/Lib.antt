@@ -1,4 +1,7 @@
 pub mod Taken
+pub mod Windows
+pub mod Quickly
 pub mod Stepping
 pub mod Chain
 pub mod Alike
+pub mod Only

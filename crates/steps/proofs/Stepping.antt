@@ -10,10 +10,11 @@ use lib.ListN.{length}
 use Rattle.sizes.specs.Sizes.{depth}
 use Rattle.tokens.specs.declared.Token.{Token}
 use Rattle.tokens.specs.declared.Step.{Step}
-use Rattle.tokens.specs.Tokens.{tokenAt}
-use Rattle.tokens.specs.Listed.{right, tokThen, tokensFrom}
+use Rattle.tokens.specs.Tokens.{markOf, tokenAt}
+use Rattle.tokens.specs.Listed.{Tok, right, tokThen, tokensFrom}
 use Rattle.tokens.proofs.Bounds.{solid}
 use Rattle.tokens.proofs.Listed.{tokens-kind, moved, ended}
+use Rattle.tokens.proofs.Marks.{marks-on, mark-behind}
 use Rattle.layout.specs.declared.Refusal.{Refusal}
 use Rattle.layout.specs.Reading.{skip}
 use Rattle.steps.specs.declared.step.Past.{Past}
@@ -24,6 +25,20 @@ pub record Left (s : List ℕ) (at c d : ℕ) : Type 0 where
   pub from : at ≤ c
   pub deep : d < depth
   pub same : skip (length s) d (tokensFrom s c) ≡ skip (length s) 0 (tokensFrom s at)
+
+pub mark-ahead : (s : List ℕ) (c m : ℕ) → m ≡ markOf s c → c ≤ m
+mark-ahead s c m e = omega (arith, e, mark-behind s {A = ℕ} (λ ts. 0) (λ o w ts. refl) c)
+
+-- blanks and words are stepped over at once
+pub skip-on : (s : List ℕ) (at c d m : ℕ) → Left s at c d → m ≡ markOf s c → Left s at m d
+unfolding skip
+skip-on s at c d m h e =
+    let f = skip (length s) d in
+    record {
+      from = omega (arith, h .from, mark-behind s f (λ o w ts. refl) c, e);
+      deep = h .deep;
+      same = ap (λ k. f (tokensFrom s k)) e ∙ sym (marks-on s f (λ o w ts. refl) c) ∙ h .same;
+    }
 
 module _ (s : List ℕ) (at c d : ℕ) (h : Left s at c d) (t : Step) (e : t ≡ tokenAt s c) where
   went : (k : Token) → T (solid k) → t .token ≡ k → (f : ℕ) → f < depth

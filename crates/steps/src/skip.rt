@@ -23,7 +23,8 @@ pub fn skip_from(s: &[u8], at: usize) -> Past
     let mut c = at;
     let mut d: u32 = 0;
     loop {
-        let t = (Cursor { at: c }).token(s);
+        let m = (Cursor { at: c }).mark(s);
+        let t = (Cursor { at: m }).token(s);
         let k = t.token;
         let start = t.start;
         c = t.next.at;

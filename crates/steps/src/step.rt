@@ -116,7 +116,8 @@ pub fn number_at(s: &[u8], at: usize, sort: Sort) -> Num
     Num::Is { value, start, next }
 }
 
-pub fn pair_at(s: &[u8], at: usize) -> Pair
+// The coordinate of the token there, looked at a second time.
+pub(crate) fn pair_by_token(s: &[u8], at: usize) -> Pair
     ensures { λ r. ⌜ PairAt (now (s .entry)) at r (pairWord (length (now (s .entry))) (tokensFrom (now (s .entry)) at)) ⌝ }
 {
     let t = (Cursor { at }).token(s);

@@ -2,7 +2,7 @@
 use Prim.Native.Nat.{ℕ, _+_, _≤_, _<_}
 use mathlib.Core.Path.{_≡_}
 use mathlib.Core.List.{List}
-use mathlib.Core.Bool.{true, false}
+use mathlib.Core.Bool.{Bool, true, false, not}
 use native.Mathlib.Numerals.{add-one}
 use borrow.Author.Tests.{lt-ltb, le-ltb}
 use lib.ListN.{length, getD, drop-of-length-le}
@@ -10,7 +10,7 @@ use lib.Seq.{drop-cons}
 use Rattle.tokens.specs.declared.Class.{Class}
 use Rattle.tokens.specs.declared.Run.{Run}
 use Rattle.tokens.specs.declared.Token.{Token}
-use Rattle.tokens.specs.Tokens.{classOf, goesOn, runEnd, runAt, stepOf, textTo, tokenOf, tokenFrom, tokenAt}
+use Rattle.tokens.specs.Tokens.{classOf, goesOn, runEnd, runAt, endsWord, stepOf, textTo, tokenOf, tokenFrom, tokenAt}
 
 module _ (k : Run) (s : List ℕ) (i : ℕ) where
   pub run-more : i < length s → goesOn k (classOf (getD s i 0)) ≡ true → runAt k s (i + 1) ≡ runAt k s i
@@ -26,6 +26,14 @@ module _ (k : Run) (s : List ℕ) (i : ℕ) where
   run-out h = rw (drop-of-length-le s h)
 
 module _ (s : List ℕ) (i : ℕ) where
+  pub ends-byte : i < length s → not (goesOn Run.Word (classOf (getD s i 0))) ≡ endsWord s i
+  unfolding endsWord
+  ends-byte h = rw (lt-ltb i (length s) h, endsWord)
+
+  pub ends-file : length s ≤ i → true ≡ endsWord s i
+  unfolding endsWord
+  ends-file h = rw (le-ltb i (length s) h, endsWord)
+
   from-is : (k : Class) → i < length s → k ≡ classOf (getD s i 0) → tokenOf k s i ≡ tokenFrom s i
   unfolding tokenFrom
   from-is k h q = rw (lt-ltb i (length s) h, tokenFrom, q)

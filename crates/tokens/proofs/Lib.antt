@@ -1,6 +1,8 @@
 mod Laws
+pub mod Runner
 pub mod Bounds
 pub mod Listed
+pub mod Marks
 mod Runs
 mod TextOf
 pub mod Text

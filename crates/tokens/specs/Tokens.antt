@@ -1,7 +1,7 @@
 -- [01:Tokens], the tokens: what stands at a place of the file. To be believed: all of this file. Assumes nothing.
 use Prim.Native.Nat.{ℕ, suc, _+_}
 use mathlib.Core.List.{List, [], _∷_}
-use mathlib.Core.Bool.{Bool, true, false, _||_}
+use mathlib.Core.Bool.{Bool, true, false, _||_, not}
 use lib.ListN.{length, getD, drop}
 use lib.Dec.{ltb, eqb}
 use Rattle.tokens.specs.declared.Class.{Class}
@@ -43,6 +43,11 @@ goesOn Run.Text Class.Left = true
 goesOn Run.Text Class.Right = true
 goesOn Run.Text Class.Quote = false
 goesOn Run.Text Class.Other = true
+goesOn Run.Plain Class.Blank = true
+goesOn Run.Plain Class.Left = false
+goesOn Run.Plain Class.Right = false
+goesOn Run.Plain Class.Quote = false
+goesOn Run.Plain Class.Other = true
 
 -- where the longest run ends; the list is what stands from i on
 unfoldable pub runEnd : Run → List ℕ → ℕ → ℕ
@@ -51,6 +56,18 @@ runEnd k (b ∷ r) i = elim (goesOn k (classOf b)) [ true ↦ runEnd k r (suc i)
 
 unfoldable pub runAt : Run → List ℕ → ℕ → ℕ
 runAt k s i = runEnd k (drop i s) i
+
+-- where the first token at or behind a place starts
+abbrev pub startOf : List ℕ → ℕ → ℕ
+startOf s at = runAt Run.Blanks s at
+
+-- where the first parenthesis or quote at or behind a place stands
+abbrev pub markOf : List ℕ → ℕ → ℕ
+markOf s at = runAt Run.Plain s at
+
+-- a word that reaches i ends there: no byte that goes on with it stands at i
+unfoldable pub endsWord : List ℕ → ℕ → Bool
+endsWord s i = elim (ltb i (length s)) [ true ↦ not (goesOn Run.Word (classOf (getD s i 0))) | false ↦ true ]
 
 -- a token that starts at i, and n behind it
 abbrev pub stepOf : Token → ℕ → ℕ → Step
@@ -74,4 +91,4 @@ tokenFrom s i = elim (ltb i (length s)) [ true ↦ tokenOf (classOf (getD s i 0)
 
 -- the first token at or behind `at`: "with any blanks or none around them"
 unfoldable pub tokenAt : List ℕ → ℕ → Step
-tokenAt s at = tokenFrom s (runAt Run.Blanks s at)
+tokenAt s at = tokenFrom s (startOf s at)

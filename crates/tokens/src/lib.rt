@@ -1,6 +1,6 @@
 // Tokens of a text mesh: a cursor by value, and what stands at it.
 ghost use mathlib.Core.Path.{_≡_};
-ghost use Rattle.tokens.specs.Tokens.{isBlank, classOf, goesOn, runAt, stepOf, textTo, tokenOf, tokenAt};
+ghost use Rattle.tokens.specs.Tokens.{isBlank, classOf, goesOn, runAt, startOf, markOf, endsWord, stepOf, textTo, tokenOf, tokenAt};
 
 // What a byte is to the tokeniser.
 enum Class {
@@ -16,6 +16,7 @@ enum Run {
     Blanks,
     Word,
     Text,
+    Plain,
 }
 
 // What stands at a place of the file. An unclosed string is a token of its own sort.
@@ -89,6 +90,13 @@ fn goes_on(k: Run, c: Class) -> bool
             Class::Quote => false,
             Class::Other => true,
         },
+        Run::Plain => match c {
+            Class::Blank => true,
+            Class::Left => false,
+            Class::Right => false,
+            Class::Quote => false,
+            Class::Other => true,
+        },
     }
 }
 
@@ -119,6 +127,34 @@ impl Cursor {
         ensures { λ r. ⌜ r .at ≡ 0 ⌝ }
     {
         Cursor { at: 0 }
+    }
+
+    // Where the first token at or behind the cursor starts; without one, the file's length or the cursor's own place past it.
+    pub fn start(self, s: &[u8]) -> usize
+        ensures { λ r. ⌜ r ≡ startOf (now (s .entry)) (self .at) ⌝ }
+    {
+        let at = self.at;
+        run_end(s, at, Run::Blanks)
+    }
+
+    // The first parenthesis or quote at or behind the cursor: what words stand before it is not looked at. Without one, as `start`.
+    pub fn mark(self, s: &[u8]) -> usize
+        ensures { λ r. ⌜ r ≡ markOf (now (s .entry)) (self .at) ⌝ }
+    {
+        let at = self.at;
+        run_end(s, at, Run::Plain)
+    }
+
+    // Whether a word that reaches the cursor ends there.
+    pub fn ends_word(self, s: &[u8]) -> bool
+        ensures { λ r. ⌜ r ≡ endsWord (now (s .entry)) (self .at) ⌝ }
+    {
+        let at = self.at;
+        if at < s.len() {
+            let c = class_of(s[at]);
+            return !goes_on(Run::Word, c);
+        }
+        true
     }
 
     // The first token at or behind the cursor. At and past the end of the file it is the end, whose place is the file's length.

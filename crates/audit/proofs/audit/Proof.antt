@@ -31,7 +31,7 @@ audit-faces-requires : tie.Need-audit-faces-requires
 audit-faces-requires c κs =
     let f = c .before .before .before in
     let w = totals-within _ _ _ _ _ _ (sym (f .before .totals-fit .ensures) ∙ not-false _ (f .if2 .left)) in
-    (w .0, search needs)
+    (w .0, search needs, w .2)
 
 audit-cells-requires : tie.Need-audit-cells-requires
 audit-cells-requires c κs =

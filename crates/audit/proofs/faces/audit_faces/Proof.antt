@@ -1,7 +1,7 @@
 -- `audit::faces::audit_faces` meets its contract: each loop holds what is left to lay, and the outer one what is left to count. Assumes nothing.
 use Prim.Native.Nat.{_≤_, _-_, _+_, _*_}
 use native.Mathlib.Omega.{arith}
-use mathlib.Core.Path.{refl, sym, _∙_}
+use mathlib.Core.Path.{refl, _∙_}
 use borrow.Author.Needs.{needs}
 use lib.ListN.{length}
 use lib.Dec.{lit≤}
@@ -9,8 +9,9 @@ use Rattle.mesh.specs.Rows.{places}
 use Rattle.faults.specs.Over.{each}
 use Rattle.faults.specs.Faults.{faultAt, faultsOfKind, faultsOfFace}
 use Rattle.audit.specs.All.{faceFaults}
-use Rattle.audit.proofs.Loop.{Lays, start, turn, done, positions-few, face-none, face-visited}
-use Rattle.audit.proofs.Counting.{Tallying, tallying-none, tallying-small, bumped-small, tallying-more, tallying-all}
+use Rattle.audit.specs.Steps.{Tallying}
+use Rattle.audit.proofs.Loop.{Lays, start, turn, skip, done, positions-few, face-visited}
+use Rattle.audit.proofs.Counting.{tallying-none, tallying-from, tallying-on, tallying-all}
 use Rattle.audit.proofs.faces.audit_faces.Statement.{statement}
 use Rattle.audit.proofs.faces.audit_faces.Tie as tie
 
@@ -52,26 +53,34 @@ clear-requires c κs = search needs
 faces-holds : tie.Need-faces-holds Inv-positions μ-positions Inv-kinds μ-kinds Inv-faces μ-faces
 faces-holds c = (omega arith, omega arith, start _ 1 0 _ _ 0 (omega arith), tallying-none _ _ _ _ _ _ (c .before .before .clear .ensures))
 
+sound-to-requires :
+    tie.Need-sound-to-requires Inv-positions μ-positions Inv-kinds μ-kinds Inv-faces μ-faces
+sound-to-requires c κs =
+    let l = c .before .faces .inv in
+    let s = c .before .before .before .before .before .before .before .before .before .before in
+    (l .0, s .pre .0, s .pre .2, l .1, tallying-from places _ _ _ (l .3))
+
+same-length : tie.Need-same-length Inv-positions μ-positions Inv-kinds μ-kinds Inv-faces μ-faces
+same-length c =
+    let t = c .before .before .before in
+    t .sound-to .ensures .tallied .kept ∙ t .before .before .faces .inv .3 .kept ∙ t .before .before .before .before .before .clear .kept .0
+
+same-length-2 :
+    tie.Need-same-length-2 Inv-positions μ-positions Inv-kinds μ-kinds Inv-faces μ-faces
+same-length-2 c = c .before .before .before .before .before .faces .inv .2 .kept
+
+returns : tie.Need-returns Inv-positions μ-positions Inv-kinds μ-kinds Inv-faces μ-faces
+returns c =
+    let t = c .before .before .before in
+    let l = t .before .before .faces in
+    record {
+      visited = done _ _ _ _ _ (omega arith) (omega arith) (skip (t .sound-to .ensures .quiet) (l .inv .2));
+      counts = tallying-all places _ _ _ _ (omega arith) (t .before .before .before .before .before .clear .ensures) (tallying-on places _ _ _ (l .inv .3) (t .sound-to .ensures .tallied));
+    }
+
 face-at-requires :
     tie.Need-face-at-requires Inv-positions μ-positions Inv-kinds μ-kinds Inv-faces μ-faces
 face-at-requires c κs = search needs
-
-tally-requires :
-    tie.Need-tally-requires Inv-positions μ-positions Inv-kinds μ-kinds Inv-faces μ-faces
-tally-requires c κs =
-    let l = c .before .before .before in
-    let s = l .before .before .before .before .before .before .before .before .before in
-    (l .faces .inv .1, λ i h. omega (arith, s .pre .0, tallying-small places _ _ _ (l .faces .inv .3) i h))
-
-tally-requires-2 :
-    tie.Need-tally-requires-2 Inv-positions μ-positions Inv-kinds μ-kinds Inv-faces μ-faces
-tally-requires-2 c κs =
-    let t = c .before .before .before in
-    let l = t .before .before .before .before in
-    let s = l .before .before .before .before .before .before .before .before .before in (
-      omega (arith, t .tally .kept .0),
-      λ i h. omega (arith, s .pre .0, bumped-small _ _ (s .args .faces * 2) _ _ (l .faces .inv .1) (t .tally .ensures) (tallying-small places _ _ _ (l .faces .inv .3)) i h),
-    )
 
 add-f : tie.Need-add-f Inv-positions μ-positions Inv-kinds μ-kinds Inv-faces μ-faces
 add-f c = search needs
@@ -79,28 +88,23 @@ add-f c = search needs
 cast-number : tie.Need-cast-number Inv-positions μ-positions Inv-kinds μ-kinds Inv-faces μ-faces
 cast-number c = search needs
 
-any-fault-requires :
-    tie.Need-any-fault-requires Inv-positions μ-positions Inv-kinds μ-kinds Inv-faces μ-faces
-any-fault-requires c κs = search needs
-
 kinds-holds : tie.Need-kinds-holds Inv-positions μ-positions Inv-kinds μ-kinds Inv-faces μ-faces
 unfolding faultsOfFace
 kinds-holds c = (lit≤ tt, lit≤ tt, start _ 1 1 8 7 0 refl)
 
 faces-less : tie.Need-faces-less Inv-positions μ-positions Inv-kinds μ-kinds Inv-faces μ-faces
-faces-less c = omega arith
+faces-less c = omega (arith, c .before .before .before .before .before .before .sound-to .ensures .ahead)
 
 faces-again : tie.Need-faces-again Inv-positions μ-positions Inv-kinds μ-kinds Inv-faces μ-faces
 faces-again c =
     let t = c .before .before .before .before .before .before in
-    let u = t .before .before .before .before in
-    let l = u .before .before .before .before .faces in
-    let face = u .before .before .face-at in (
+    let l = t .before .before .faces in
+    let e = t .sound-to .ensures in (
       omega arith,
-      omega (arith, t .tally2 .kept .0, u .tally .kept .0, l .inv .1),
-      turn _ (l .f + 1) _ _ 28 _ (omega arith) (omega arith) (l .inv .2)
-          (face-visited _ _ _ _ _ (face .ensures) (done _ _ _ 8 28 (omega arith) (omega arith) (c .before .kinds .inv .2))),
-      tallying-more places _ _ _ _ (omega arith) (l .inv .1) (face .ensures) (u .tally .ensures) (t .tally2 .ensures) (l .inv .3),
+      omega (arith, e .tallied .kept, l .inv .1),
+      turn _ _ _ _ 28 _ (omega arith) (omega (arith, e .ahead)) (skip (e .quiet) (l .inv .2))
+          (face-visited _ _ _ _ _ (c .before .before .face-at .ensures) (done _ _ _ 8 28 (omega arith) (omega arith) (c .before .kinds .inv .2))),
+      tallying-on places _ _ _ (l .inv .3) (e .tallied),
     )
 
 positions-requires :
@@ -116,9 +120,9 @@ visit-requires :
     tie.Need-visit-requires Inv-positions μ-positions Inv-kinds μ-kinds Inv-faces μ-faces
 visit-requires c κs =
     let k = c .before .before .before .before .before in
-    let f = k .before .before .before .before .before .before .before .before .before .before .before .before .before in
-    let s = f .before .before .before .before .before .before .before .before .before in
-    omega (arith, c .before .before .positions .inv .2 .few, k .kinds .inv .2 .few, f .faces .inv .2 .few, s .pre .0)
+    let t = k .before .before .before .before .before in
+    let f = t .before .before in
+    omega (arith, c .before .before .positions .inv .2 .few, k .kinds .inv .2 .few, f .faces .inv .2 .few, f .before .before .before .before .before .before .before .before .before .pre .0)
 
 add-p : tie.Need-add-p Inv-positions μ-positions Inv-kinds μ-kinds Inv-faces μ-faces
 add-p c = search needs
@@ -147,37 +151,6 @@ kinds-again c =
       turn _ (k .kind) _ 8 4 _ (omega arith) (omega arith) (k .inv .2) (done _ _ _ _ 4 (omega arith) (omega arith) (c .before .positions .inv .2)),
     )
 
-faces-less-2 : tie.Need-faces-less-2 Inv-positions μ-positions Inv-kinds μ-kinds Inv-faces μ-faces
-faces-less-2 c = omega arith
-
-faces-again-2 :
-    tie.Need-faces-again-2 Inv-positions μ-positions Inv-kinds μ-kinds Inv-faces μ-faces
-faces-again-2 c =
-    let t = c .before .before .before .before in
-    let u = t .before .before .before .before in
-    let l = u .before .before .before .before .faces in
-    let face = u .before .before .face-at in (
-      omega arith,
-      omega (arith, t .tally2 .kept .0, u .tally .kept .0, l .inv .1),
-      turn _ (l .f + 1) _ _ 28 _ (omega arith) (omega arith) (l .inv .2)
-          (face-visited _ _ _ _ _ (face .ensures) (face-none _ _ _ _ 28 (sym (c .before .any-fault .ensures) ∙ c .if1 .left))),
-      tallying-more places _ _ _ _ (omega arith) (l .inv .1) (face .ensures) (u .tally .ensures) (t .tally2 .ensures) (l .inv .3),
-    )
-
-same-length : tie.Need-same-length Inv-positions μ-positions Inv-kinds μ-kinds Inv-faces μ-faces
-same-length c = c .before .faces .inv .3 .kept ∙ c .before .before .before .before .clear .kept .0
-
-same-length-2 :
-    tie.Need-same-length-2 Inv-positions μ-positions Inv-kinds μ-kinds Inv-faces μ-faces
-same-length-2 c = c .before .faces .inv .2 .kept
-
-returns : tie.Need-returns Inv-positions μ-positions Inv-kinds μ-kinds Inv-faces μ-faces
-returns c =
-    record {
-      visited = done _ _ _ _ _ (omega arith) (omega arith) (c .before .faces .inv .2);
-      counts = tallying-all places _ _ _ _ (omega arith) (c .before .before .before .before .clear .ensures) (c .before .faces .inv .3);
-    }
-
 pub audit-faces-spec : {M : Type 1} → statement M
 audit-faces-spec =
     tie.close
@@ -191,12 +164,13 @@ audit-faces-spec =
     cast-cells
     clear-requires
     faces-holds
+    sound-to-requires
+    same-length
+    same-length-2
+    returns
     face-at-requires
-    tally-requires
-    tally-requires-2
     add-f
     cast-number
-    any-fault-requires
     kinds-holds
     faces-less
     faces-again
@@ -208,9 +182,4 @@ audit-faces-spec =
     positions-again
     add-kind
     kinds-less
-    kinds-again
-    faces-less-2
-    faces-again-2
-    same-length
-    same-length-2
-    returns)
+    kinds-again)

@@ -1,65 +1,103 @@
-use lib.ListN.{length}
-use Rattle.bodies.specs.Bodies.{rowUnit}
-use Rattle.bodies.proofs.Forgotten.{Going, going-start, going-end, going-stop, going-more}
+use Prim.Native.Nat.{_+_}
+use Rattle.bodies.proofs.Flatly.{facings-flat, points-flat, product-fits}
+use Rattle.bodies.proofs.Loose.{loose-is}
+use mathlib.Core.Path.{sym}
 use borrow.Author.Needs.{needs}
 use native.Mathlib.Omega.{arith}
+use borrow.Author.Needs.{needs}
 use Rattle.bodies.proofs.rows.rows_past.Statement.{statement}
 use Rattle.bodies.proofs.rows.rows_past.Tie as tie
 use Rattle.bodies.proofs.rows.rows_past.Reads as reads
 use Rattle.bodies.proofs.rows.rows_past.Lts as lts
-use Rattle.bodies.proofs.rows.row_past.Reads as row-past-reads
+use Rattle.bodies.proofs.rows.rows_each.Reads as rows-each-reads
+use Rattle.bodies.proofs.rows.words_past.Reads as words-past-reads
 
-abbrev Inv-loop : tie.InvT-loop
-Inv-loop s at row n c₀ left₀ c left = Going s (rowUnit (length s) row) at n c left
+-- src/rows.rt:196:25
+enum-told : tie.Need-enum-told
+enum-told c = search needs
 
-abbrev μ-loop : tie.MeasureT-loop
-μ-loop s at row n c₀ left₀ c left = left
+-- src/rows.rt:196:25
+rows-each-requires : tie.Need-rows-each-requires
+rows-each-requires c κs = search needs
 
-loop-holds : tie.Need-loop-holds Inv-loop μ-loop
-loop-holds c = going-start _ _ _ _
+-- src/rows.rt:197:21
+enum-known-row : tie.Need-enum-known-row
+enum-known-row c = search needs
 
-row-past-requires : tie.Need-row-past-requires Inv-loop μ-loop
-row-past-requires c κs = search needs
+-- src/rows.rt:198:25
+cast-width : tie.Need-cast-width
+cast-width c = search needs
 
-enum-known-bad : tie.Need-enum-known-bad Inv-loop μ-loop
-enum-known-bad c = search needs
+-- src/rows.rt:198:25
+add-width : tie.Need-add-width
+add-width c = search needs
 
-returns : tie.Need-returns Inv-loop μ-loop
-returns c =
-    let a = c .before .before .before .before .before .before .before .args in
-    going-stop (a .s .now) (rowUnit (length (a .s .now)) (a .row)) (a .at) (a .n) _ _ (c .before .before .before .before .before .loop .inv) (c .before .before .before .before .loop-test .taken) _ (c .before .before .before .row-past .ensures) _ (c .before .bad .given .1)
+-- src/rows.rt:199:25
+mul-words : tie.Need-mul-words
+mul-words c = omega (arith, product-fits (c .before .before .before .before .args .n) (c .before .row .given .0 .0 + 2) (omega arith) (omega (arith, c .known-told .given)))
 
-enum-known-next : tie.Need-enum-known-next Inv-loop μ-loop
-enum-known-next c = search needs
+-- src/rows.rt:200:13
+words-past-requires : tie.Need-words-past-requires
+words-past-requires c κs = search needs
 
-sub-left : tie.Need-sub-left Inv-loop μ-loop
-sub-left c = search needs
+-- src/rows.rt:202:23
+enum-told-2 : tie.Need-enum-told-2
+enum-told-2 c = search needs
 
-loop-less : tie.Need-loop-less Inv-loop μ-loop
-loop-less c = search needs
+-- src/rows.rt:202:23
+rows-each-requires-2 : tie.Need-rows-each-requires-2
+rows-each-requires-2 c κs = search needs
 
-loop-again : tie.Need-loop-again Inv-loop μ-loop
-loop-again c =
-    let a = c .before .before .before .before .before .before .before .args in
-    going-more (a .s .now) (rowUnit (length (a .s .now)) (a .row)) (a .at) (a .n) _ _ (c .before .before .before .before .before .loop .inv) (c .before .before .before .before .loop-test .taken) _ (c .before .before .before .row-past .ensures) _ (c .before .next .given .1)
+-- src/rows.rt:203:20
+enum-known-row-2 : tie.Need-enum-known-row-2
+enum-known-row-2 c = search needs
 
-returns-2 : tie.Need-returns-2 Inv-loop μ-loop
-returns-2 c =
-    let a = c .before .before .before .args in
-    going-end (a .s .now) (rowUnit (length (a .s .now)) (a .row)) (a .at) (a .n) _ _ (c .before .loop .inv) (c .loop-test .left)
+-- src/rows.rt:204:25
+cast-width-2 : tie.Need-cast-width-2
+cast-width-2 c = search needs
+
+-- src/rows.rt:205:25
+mul-words-2 : tie.Need-mul-words-2
+mul-words-2 c = omega (arith, product-fits (c .before .before .before .before .args .n) (c .before .row2 .given .0 .0) (omega arith) (omega (arith, c .known-told2 .given)))
+
+-- src/rows.rt:206:13
+words-past-requires-2 : tie.Need-words-past-requires-2
+words-past-requires-2 c κs = search needs
+
+-- src/rows.rt:191:1
+returns : tie.Need-returns
+returns c = search needs
+
+-- src/rows.rt:191:1
+returns-2 : tie.Need-returns-2
+returns-2 c = rw (c .before .before .row .given .1) (loose-is _ _ (facings-flat _ _ (c .before .before .before .before .before .args .n) _) (c .words-past .ensures))
+
+-- src/rows.rt:191:1
+returns-3 : tie.Need-returns-3
+returns-3 c = search needs
+
+-- src/rows.rt:191:1
+returns-4 : tie.Need-returns-4
+returns-4 c = rw (c .before .before .row2 .given .1) (loose-is _ _ (points-flat _ _ (c .before .before .before .before .before .args .n) _) (c .words-past2 .ensures))
 
 pub rows-past-spec : {M : Type 1} → statement M
 rows-past-spec =
     tie.close
     (tie.spec
-    Inv-loop
-    μ-loop
-    loop-holds
-    row-past-requires
-    enum-known-bad
+    enum-told
+    rows-each-requires
+    enum-known-row
+    cast-width
+    add-width
+    mul-words
+    words-past-requires
+    enum-told-2
+    rows-each-requires-2
+    enum-known-row-2
+    cast-width-2
+    mul-words-2
+    words-past-requires-2
     returns
-    enum-known-next
-    sub-left
-    loop-less
-    loop-again
-    returns-2)
+    returns-2
+    returns-3
+    returns-4)

@@ -1,12 +1,12 @@
 use Rattle.reader.proofs.Rowed.{facing-put}
 use borrow.Author.Needs.{needs}
 use native.Mathlib.Omega.{arith}
+use borrow.Author.Needs.{needs}
 use Rattle.reader.proofs.rows.put_facing.Statement.{statement}
 use Rattle.reader.proofs.rows.put_facing.Tie as tie
 use Rattle.reader.proofs.rows.put_facing.Reads as reads
 use Rattle.reader.proofs.rows.put_facing.Lts as lts
 use Rattle.mesh.proofs.store.Reads as store-reads
-use Rattle.reader.proofs.rows.put_word.Reads as put-word-reads
 use Rattle.reader.proofs.rows.put_words.Reads as put-words-reads
 use Rattle.reader.proofs.rows.put_zeros.Reads as put-zeros-reads
 
@@ -35,26 +35,18 @@ put-zeros-requires : tie.Need-put-zeros-requires
 put-zeros-requires c κs = search needs
 
 -- src/rows.rt:77:17
-add-right : tie.Need-add-right
-add-right c = search needs
+add-cells : tie.Need-add-cells
+add-cells c = search needs
 
 -- src/rows.rt:78:9
-put-word-requires : tie.Need-put-word-requires
-put-word-requires c κs = search needs
+put-words-requires-2 : tie.Need-put-words-requires-2
+put-words-requires-2 c κs = search needs
 
 -- src/rows.rt:79:16
-add-left : tie.Need-add-left
-add-left c = search needs
-
--- src/rows.rt:80:9
-put-word-requires-2 : tie.Need-put-word-requires-2
-put-word-requires-2 c κs = search needs
-
--- src/rows.rt:81:16
 add-last : tie.Need-add-last
 add-last c = search needs
 
--- src/rows.rt:82:5
+-- src/rows.rt:80:5
 store-requires-2 : tie.Need-store-requires-2
 store-requires-2 c κs = search needs
 
@@ -64,7 +56,7 @@ same-length c = search needs
 
 -- src/rows.rt:66:1
 returns : tie.Need-returns
-returns c = let a = c .before .before .before .before .before .before .before .before .before .before .before .before .before .before .before .before .before .before .before .before .before .before .before .before .before .before .args in facing-put _ _ (a .n) (a .ztype) (a .k) _ _ _ (a .rows .now) _ _ _ _ _ (c .before .before .before .before .before .before .before .before .before .before .before .before .before .before .before .before .before .before .before .before .before .before .before .before .before .before .pre .0) (c .before .before .before .before .before .before .before .before .before .before .before .before .before .before .before .before .before .before .before .before .before .before .store .ensures) (c .before .before .before .before .before .before .before .before .before .before .before .before .before .before .before .before .before .before .put-words .ensures) (c .before .before .before .before .before .before .before .before .before .before .before .before .before .before .put-zeros .ensures) (c .before .before .before .before .before .before .before .before .before .before .put-word .ensures) (c .before .before .before .before .before .before .put-word2 .ensures) (c .before .before .store2 .ensures)
+returns c = let a = c .before .before .before .before .before .before .before .before .before .before .before .before .before .before .before .before .before .before .before .before .before .before .args in facing-put _ _ (a .n) (a .ztype) (a .k) _ _ (a .rows .now) _ _ _ _ (c .before .before .before .before .before .before .before .before .before .before .before .before .before .before .before .before .before .before .before .before .before .before .pre .0) (c .before .before .before .before .before .before .before .before .before .before .before .before .before .before .before .before .before .before .store .ensures) (c .before .before .before .before .before .before .before .before .before .before .before .before .before .before .put-words .ensures) (c .before .before .before .before .before .before .before .before .before .before .put-zeros .ensures) (c .before .before .before .before .before .before .put-words2 .ensures) (c .before .before .store2 .ensures)
 
 pub put-facing-spec : {M : Type 1} → statement M
 put-facing-spec =
@@ -76,10 +68,8 @@ put-facing-spec =
     add-behind
     sub-spare
     put-zeros-requires
-    add-right
-    put-word-requires
-    add-left
-    put-word-requires-2
+    add-cells
+    put-words-requires-2
     add-last
     store-requires-2
     same-length

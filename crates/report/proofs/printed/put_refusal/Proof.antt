@@ -7,11 +7,14 @@ use Rattle.report.proofs.printed.put_refusal.Tie as tie
 use Rattle.report.proofs.printed.put_refusal.Reads as reads
 use Rattle.report.proofs.printed.put_refusal.Lts as lts
 use Rattle.report.proofs.lines.put_line.Reads as put-line-reads
-use Rattle.report.proofs.printed.number_of.Reads as number-of-reads
+use Rattle.layout.proofs.number_of.Reads as number-of-reads
 
 -- src/printed.rt:41:9
 number-of-requires : tie.Need-number-of-requires
 number-of-requires c κs = search needs
+
+cast-number : tie.Need-cast-number
+cast-number c = search needs
 
 -- src/printed.rt:43:19
 slice-aggregate-put-line : tie.Need-slice-aggregate-put-line
@@ -32,4 +35,4 @@ returns c = refusal-line _ _ _ _ _ _ _ (c .before .before .before .before .befor
 pub put-refusal-spec : {M : Type 1} → statement M
 put-refusal-spec =
     tie.close
-    (tie.spec number-of-requires slice-aggregate-put-line put-line-requires same-length returns)
+    (tie.spec number-of-requires cast-number slice-aggregate-put-line put-line-requires same-length returns)

@@ -4,10 +4,10 @@ use Rattle.steps.proofs.Taken.{word-moves, offset-in, pair-not, pair-is
 use borrow.Author.Needs.{needs}
 use native.Mathlib.Omega.{arith}
 use borrow.Author.Needs.{needs}
-use Rattle.steps.proofs.step.pair_at.Statement.{statement}
-use Rattle.steps.proofs.step.pair_at.Tie as tie
-use Rattle.steps.proofs.step.pair_at.Reads as reads
-use Rattle.steps.proofs.step.pair_at.Lts as lts
+use Rattle.steps.proofs.step.pair_by_token.Statement.{statement}
+use Rattle.steps.proofs.step.pair_by_token.Tie as tie
+use Rattle.steps.proofs.step.pair_by_token.Reads as reads
+use Rattle.steps.proofs.step.pair_by_token.Lts as lts
 use Rattle.numbers.proofs.coordinate.Reads as coordinate-reads
 use Rattle.numbers.proofs.bad_at.Reads as bad-at-reads
 use Rattle.tokens.proofs.Cursor.token.Reads as token-reads
@@ -70,8 +70,8 @@ returns-3 c =
     rw (toZ-ofZ _ _ (sfits-of (z .0 .1)), toZ-ofZ _ _ (sfits-of (z .1 .0 .1)))
     (pair-is _ _ _ (w .before .before .token .ensures) (w .enum-told .given .1) _ (v .before .before .coordinate .ensures) _ _ (v .d .given .1))
 
-pub pair-at-spec : {M : Type 1} → statement M
-pair-at-spec =
+pub pair-by-token-spec : {M : Type 1} → statement M
+pair-by-token-spec =
     tie.close
     (tie.spec
     token-requires

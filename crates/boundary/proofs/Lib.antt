@@ -1,0 +1,5 @@
+pub mod Copying
+pub mod Said
+pub mod Words
+pub mod Kept
+pub mod Only

@@ -1,0 +1,7 @@
+-- No second answer meets the contract. Assumes nothing.
+use mathlib.Core.Path.{sym, _∙_}
+use Rattle.facts.specs.Only.{Only}
+use Rattle.steps.proofs.quick.quick_hex.Reads as quick-hex
+
+pub quick-hex-only : Only quick-hex.Post
+quick-hex-only κ a r r′ x x′ p q = p ∙ sym q

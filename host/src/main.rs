@@ -1,0 +1,7 @@
+//! The command `ravneket`: audits mesh files.
+
+mod cli;
+
+fn main() -> std::process::ExitCode {
+    cli::main()
+}
