@@ -114,24 +114,27 @@ fn is_loose(cells: u32, face: Face) -> bool
     face.right == 0 && face.left == 0
 }
 
-// Whether the face has a fault of the kind at the position or side.
+// Whether the face has a fault of the kind at the position or side. A longer chain of tests than three would be compiled to a jump through a table, once a position.
 pub fn has_fault(frame: Frame, face: Face, kind: u32, p: u32) -> bool
     ensures { λ r. ⌜ r ≡ hasFault places frame face kind p ⌝ }
 {
     let nodes = face.nodes;
-    if kind == 1 {
-        return wrong_count(frame.dim, face.count);
+    if kind < 4 {
+        if kind == 1 {
+            return wrong_count(frame.dim, face.count);
+        }
+        if kind == 2 {
+            return wrong_node(frame.nodes, node_at(nodes, p));
+        }
+        if kind == 3 {
+            return is_earlier(nodes, p);
+        }
+        return false;
     }
-    if kind == 2 {
-        return wrong_node(frame.nodes, node_at(nodes, p));
-    }
-    if kind == 3 {
-        return is_earlier(nodes, p);
-    }
-    if kind == 4 {
-        return frame.cells < side_of(face, p);
-    }
-    if kind == 5 {
+    if kind < 6 {
+        if kind == 4 {
+            return frame.cells < side_of(face, p);
+        }
         return is_same(face);
     }
     if kind == 6 {

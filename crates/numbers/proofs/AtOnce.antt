@@ -14,8 +14,8 @@ use Rattle.numbers.specs.declared.quick.Hexes.{Hexes}
 use Rattle.numbers.specs.Whole.{within, digitOf, Digits, digits, digitsIn, hexadecimalOf}
 use Rattle.numbers.specs.Value.{Figures}
 use Rattle.numbers.specs.Hexes.{hexesBy, hexesOf}
-use Rattle.numbers.proofs.Digits.{within-is, Run, digitsIn-part}
-use Rattle.numbers.proofs.Pieces.{wholeOf-exact}
+use Rattle.numbers.proofs.Digits.{within-is, Run, digitsIn-part, digitsIn-exact, Begins, NoDigit}
+use Rattle.numbers.proofs.Pieces.{wholeOf-exact, wholeOf-exactly}
 
 within-yes : (low high b : ℕ) → low ≤ b → b ≤ high → within low high b ≡ true
 within-yes low high b l h = ap (λ (t : Bool). t && leb b high) (le-leb low b l) ∙ le-leb b high h
@@ -108,6 +108,15 @@ hexes-worded w h =
     let low : 1 ≤ digitsIn 16 0 0 w .count = omega (arith, h, ap (λ (y : Hexes). y .count) e) in
     subst (Worded w) (sym e) (run-worded w (digitsIn 16 0 0 w) r low (omega (arith, leb-true (length w) 8 p, r .count, ap length (r .parted), length-append (r .run) (digitsIn 16 0 0 w .rest)))))
     (λ p. absurd (let e : hexesOf w ≡ record { value = 0; count = 0 } = rw (p, hexesOf) in omega (arith, h, ap (λ (y : Hexes). y .count) e)))
+
+-- a hexadecimal word at the start of the bytes is what is read
+pub hexes-all : (w rest : List ℕ) (v : ℕ) → hexadecimalOf w ≡ Whole.Is v → Begins (NoDigit 16) rest → length (w ++ rest) ≤ 8 → hexesOf (w ++ rest) ≡ record { value = v; count = length w }
+unfolding hexesOf
+hexes-all w rest v e b h =
+    let is = wholeOf-exactly 16 8 w v .0 e in
+    let zero-more : 0 + length w ≡ length w = omega arith in
+    rw (le-leb (length (w ++ rest)) 8 h, hexesOf)
+    (ap hexesBy (digitsIn-exact 16 w rest 0 0 (is .figures) b) ∙ (λ i. record { value = sym (is .value) i; count = zero-more i }))
 
 -- a digit is a byte from `0` on
 pub digit-high : (b : ℕ) → digitOf b < 16 → 48 ≤ b

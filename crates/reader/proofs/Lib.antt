@@ -2,6 +2,7 @@ pub mod Steps
 pub mod Puts
 pub mod Rowing
 pub mod Single
+pub mod Known
 pub mod Rowed
 pub mod Pointed
 pub mod Mapped

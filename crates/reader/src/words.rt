@@ -11,7 +11,6 @@ use steps::Close;
 use steps::Num;
 use steps::Pair;
 use steps::Past;
-use steps::Quick;
 
 // A number and the place behind it.
 pub struct Value {
@@ -43,11 +42,10 @@ pub(crate) fn value_at(s: &[u8], at: usize, sort: Sort) -> Value
 pub(crate) fn hex_at(s: &[u8], at: usize) -> Value
     ensures { λ r. ⌜ Steps (now (s .entry)) at (r .next) (hexOf (length (now (s .entry))) (tokensFrom (now (s .entry)) at)) (λ v. r .value ≡ v) ⌝ }
 {
-    let q = steps::quick_hex(s, at);
-    match q {
-        Quick::Is { value, next } => Value { value, next },
-        Quick::Not => value_at(s, at, Sort::Hexadecimal),
-    }
+    let k = steps::known_hex(s, at);
+    let value = k.value;
+    let next = k.next;
+    Value { value, next }
 }
 
 pub(crate) fn coordinate_at(s: &[u8], at: usize) -> Coordinate

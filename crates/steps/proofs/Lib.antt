@@ -1,6 +1,7 @@
 pub mod Taken
 pub mod Windows
 pub mod Quickly
+pub mod Knowing
 pub mod Stepping
 pub mod Chain
 pub mod Alike

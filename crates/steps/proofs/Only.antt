@@ -1,7 +1,11 @@
 -- No second answer meets the contract. Assumes nothing.
 use mathlib.Core.Path.{sym, _∙_}
 use Rattle.facts.specs.Only.{Only}
+use Rattle.steps.proofs.quick.known_hex.Reads as known-hex
 use Rattle.steps.proofs.quick.quick_hex.Reads as quick-hex
 
 pub quick-hex-only : Only quick-hex.Post
 quick-hex-only κ a r r′ x x′ p q = p ∙ sym q
+
+pub known-hex-only : Only known-hex.Post
+known-hex-only κ a r r′ x x′ p q = p ∙ sym q

@@ -5,7 +5,7 @@ ghost use lib.ListN.{length};
 ghost use Rattle.tokens.specs.Listed.{tokensFrom};
 ghost use Rattle.layout.specs.Reading.{pairWord};
 ghost use Rattle.steps.specs.Views.{PairAt};
-ghost use Rattle.steps.specs.Quick.{quickOf};
+ghost use Rattle.steps.specs.Quick.{quickOf, knownOf};
 use super::step::Pair;
 use super::step::pair_by_token;
 use numbers::Decimal;
@@ -18,6 +18,12 @@ const HEX_BYTES: usize = 8;
 pub enum Quick {
     Is { value: u32, next: usize },
     Not,
+}
+
+// Digits at a place, and the place behind them.
+pub struct Known {
+    pub value: u32,
+    pub next: usize,
 }
 
 // The end of a window of at most so many bytes.
@@ -50,6 +56,25 @@ pub fn quick_hex(s: &[u8], at: usize) -> Quick
         return Quick::Is { value, next };
     }
     Quick::Not
+}
+
+// The hexadecimal word of a file that is known to be good: whether it ends behind its digits is not asked.
+pub fn known_hex(s: &[u8], at: usize) -> Known
+    ensures { λ r. ⌜ r ≡ knownOf (now (s .entry)) at ⌝ }
+{
+    let start = (Cursor { at }).start(s);
+    let size = s.len();
+    if size <= start {
+        return Known {
+            value: 0,
+            next: start,
+        };
+    }
+    let end = window_end(size, start, HEX_BYTES);
+    let h = numbers::hexes_in(&s[start..end]);
+    let value = h.value;
+    let next = start + h.count;
+    Known { value, next }
 }
 
 pub fn pair_at(s: &[u8], at: usize) -> Pair

@@ -1,5 +1,6 @@
 mod Laws
 pub mod Runner
+pub mod Ended
 pub mod Bounds
 pub mod Listed
 pub mod Marks

@@ -26,7 +26,7 @@ only-other Class.Quote e = absurd (false≢true e)
 only-other Class.Other e = refl
 
 -- every byte above `)` can stand in a word
-word-byte : (b : ℕ) → 42 ≤ b → goesOn Run.Word (classOf b) ≡ true
+pub word-byte : (b : ℕ) → 42 ≤ b → goesOn Run.Word (classOf b) ≡ true
 unfolding classOf
 word-byte b h =
     rw (
