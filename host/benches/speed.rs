@@ -90,15 +90,17 @@ fn others(quick: bool, meshes: &mut Vec<Mesh>) {
     }
     add("3D hexahedra, a beam, aligned", large::text(&beam, false));
     add("rows of all totals, mixed", large::text(&large::model(), true));
-    let mut text = large::text(&FAMILIES[0].model(16), false);
+    let mesh = large::text(&FAMILIES[0].model(16), false);
+    let mut comments = Vec::new();
     for line in 0..if quick { 10_000 } else { 150_000 } {
-        text.extend(format!("(0 \"a comment (of line {line})\")\n(45 ({line} fluid zone)())\n").into_bytes());
+        comments.extend(format!("(0 \"a comment (of line {line})\")\n(45 ({line} fluid zone)())\n").into_bytes());
     }
-    text.truncate(8_388_608);
-    while text.last() != Some(&b'\n') || !text.ends_with(b"())\n") {
-        text.pop();
+    comments.truncate(8_388_608 - mesh.len());
+    while !comments.ends_with(b"())\n") {
+        comments.pop();
     }
-    add("2D quads 16, comments", text);
+    add("2D quads 16, comments", [&mesh[..], &comments].concat());
+    add("2D quads 16, comments in front", [comments, mesh].concat());
 }
 
 /// Times both readers on a text, and answers the tables, which are equal.

@@ -17,6 +17,7 @@ use Rattle.steps.specs.declared.step.Num.{Num}
 use Rattle.steps.specs.declared.step.Pair.{Pair}
 use Rattle.bodies.specs.declared.rows.Word.{Word}
 use Rattle.steps.specs.Views.{pastView, numView, pairView, closeView, NumAhead, CloseAhead, NumAt, PairAt, CloseAt, PastAt}
+use Rattle.steps.proofs.Pairing.{Paired}
 use Rattle.bodies.specs.Bodies.{forget, pastOf, wordUnit, NotBefore, LooseAt}
 
 -- ---- single words
@@ -43,6 +44,10 @@ module _ (s : List ℕ) (at : ℕ) where
           says = ap (λ y. forget (pairView s y)) (sym q) ∙ ap forget (h .says);
           from = let a : (at < n) × (n ≤ length s) = rw q at (h .ahead) in omega arith;
         }
+
+  -- a coordinate of which only its place is known
+  pub decimal-went : (n : ℕ) → Paired s at n → LooseAt s at (Past.To n) (wordUnit (length s) Word.Decimal (tokensFrom s at))
+  decimal-went n p = decimal-to (Pair.Is (p .mantissa) (p .exponent) n) (p .pair) (p .mantissa) (p .exponent) n refl
 
 -- ---- n things, each by r
 pub dropped : {A : Type 0} (a : A) (g : Got (List A)) → forget (next g (λ xs. R.pure (a ∷ xs))) ≡ forget g

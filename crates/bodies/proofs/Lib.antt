@@ -3,3 +3,5 @@ pub mod Loose
 pub mod Flatly
 pub mod Shapes
 pub mod Alike
+mod Counted
+mod Partly

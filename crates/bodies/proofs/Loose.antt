@@ -22,7 +22,7 @@ use Rattle.bodies.specs.Bodies.{forget, wordUnit, listedOf, closedOf, No
 use Rattle.steps.proofs.Chain.{past-no, past-to, past-ahead, close-no, close-to, close-ahead, num-no, num-to, num-ahead}
 use Rattle.bodies.proofs.Forgotten.{dropped}
 
-later : (at n : ℕ) (y : Past) → at ≤ n → NotBefore n y → NotBefore at y
+pub later : (at n : ℕ) (y : Past) → at ≤ n → NotBefore n y → NotBefore at y
 later at n (Past.To m) l h = omega arith
 later at n (Past.No b) l h = tt
 

@@ -1,4 +1,5 @@
 // Bodies judged and not kept.
+mod blocks;
 mod bodies;
 mod rows;
 

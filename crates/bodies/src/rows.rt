@@ -8,6 +8,7 @@ ghost use Rattle.layout.specs.Reading.{rowsOf};
 ghost use Rattle.layout.specs.Sections.{elementOf, facingOf, mixedOf};
 ghost use Rattle.steps.specs.Views.{NumAt};
 ghost use Rattle.bodies.specs.Bodies.{LooseAt, forget, pastOf, wordUnit, listedOf, rowUnit};
+use super::blocks::blocks_past;
 use layout::Refusal;
 use numbers::Sort;
 use steps::Bad;
@@ -15,9 +16,12 @@ use steps::Num;
 use steps::Pair;
 use steps::Past;
 use steps::Quick;
+use steps::Went;
+use steps::digit_hex;
 use steps::number_at;
 use steps::pair_at;
 use steps::quick_hex;
+use steps::quick_pair;
 
 pub enum Word {
     Hex,
@@ -57,7 +61,7 @@ fn hex_past(s: &[u8], at: usize) -> Past
     }
 }
 
-fn decimal_past(s: &[u8], at: usize) -> Past
+fn pair_past(s: &[u8], at: usize) -> Past
     ensures { λ r. ⌜ LooseAt (now (s .entry)) at r (wordUnit (length (now (s .entry))) Word.Decimal (tokensFrom (now (s .entry)) at)) ⌝ }
 {
     let p = pair_at(s, at);
@@ -68,6 +72,17 @@ fn decimal_past(s: &[u8], at: usize) -> Past
             exponent: _,
             next,
         } => Past::To(next),
+    }
+}
+
+// What the coordinate says is not asked where its shape is enough.
+fn decimal_past(s: &[u8], at: usize) -> Past
+    ensures { λ r. ⌜ LooseAt (now (s .entry)) at r (wordUnit (length (now (s .entry))) Word.Decimal (tokensFrom (now (s .entry)) at)) ⌝ }
+{
+    let q = quick_pair(s, at);
+    match q {
+        Went::To(next) => Past::To(next),
+        Went::Not => pair_past(s, at),
     }
 }
 
@@ -100,6 +115,16 @@ fn words_past(s: &[u8], at: usize, word: Word, n: usize) -> Past
     Past::To(c)
 }
 
+// n hexadecimal words: in blocks as far as these go, then word by word.
+fn hexes_past(s: &[u8], at: usize, n: usize) -> Past
+    ensures { λ r. ⌜ LooseAt (now (s .entry)) at r (forget (rowsOf (length (now (s .entry))) (wordUnit (length (now (s .entry))) Word.Hex) n (tokensFrom (now (s .entry)) at))) ⌝ }
+{
+    let b = blocks_past(s, at, n);
+    let next = b.next;
+    let left = b.left;
+    words_past(s, next, Word::Hex, left)
+}
+
 fn between(lo: u32, v: u32, hi: u32) -> bool
     ensures { λ r. ⌜ r ≡ (leb lo v && leb v hi) ⌝ }
 {
@@ -127,7 +152,7 @@ fn listed_at(s: &[u8], at: usize, lo: u32, hi: u32) -> Num
     }
 }
 
-fn element_past(s: &[u8], at: usize) -> Past
+fn element_by_token(s: &[u8], at: usize) -> Past
     ensures { λ r. ⌜ LooseAt (now (s .entry)) at r (forget (elementOf (length (now (s .entry))) (tokensFrom (now (s .entry)) at))) ⌝ }
 {
     let n = listed_at(s, at, 1, 6);
@@ -142,7 +167,7 @@ fn facing_past(s: &[u8], at: usize, n: u32) -> Past
     words_past(s, at, Word::Hex, words)
 }
 
-fn mixed_past(s: &[u8], at: usize) -> Past
+fn mixed_by_token(s: &[u8], at: usize) -> Past
     ensures { λ r. ⌜ LooseAt (now (s .entry)) at r (forget (mixedOf (length (now (s .entry))) (tokensFrom (now (s .entry)) at))) ⌝ }
 {
     let n = listed_at(s, at, 2, 4);
@@ -153,6 +178,42 @@ fn mixed_past(s: &[u8], at: usize) -> Past
             start: _,
             next,
         } => facing_past(s, next, value),
+    }
+}
+
+// As `element_by_token`, and most elements are one digit.
+fn element_past(s: &[u8], at: usize) -> Past
+    ensures { λ r. ⌜ LooseAt (now (s .entry)) at r (forget (elementOf (length (now (s .entry))) (tokensFrom (now (s .entry)) at))) ⌝ }
+{
+    let q = digit_hex(s, at);
+    match q {
+        Quick::Not => element_by_token(s, at),
+        Quick::Is { value, next } => {
+            let listed = between(1, value, 6);
+            if listed {
+                Past::To(next)
+            } else {
+                element_by_token(s, at)
+            }
+        }
+    }
+}
+
+// As `mixed_by_token`, and most counts are one digit.
+fn mixed_past(s: &[u8], at: usize) -> Past
+    ensures { λ r. ⌜ LooseAt (now (s .entry)) at r (forget (mixedOf (length (now (s .entry))) (tokensFrom (now (s .entry)) at))) ⌝ }
+{
+    let q = digit_hex(s, at);
+    match q {
+        Quick::Not => mixed_by_token(s, at),
+        Quick::Is { value, next } => {
+            let listed = between(2, value, 4);
+            if listed {
+                facing_past(s, next, value)
+            } else {
+                mixed_by_token(s, at)
+            }
+        }
     }
 }
 
@@ -197,7 +258,7 @@ pub(crate) fn rows_past(s: &[u8], at: usize, row: Row, n: u32) -> Past
         Row::Facing(k) => {
             let width = k as usize + 2;
             let words = rows * width;
-            words_past(s, at, Word::Hex, words)
+            hexes_past(s, at, words)
         }
         Row::Mixed => rows_each(s, at, row, n),
         Row::Point(d) => {

@@ -14,7 +14,8 @@ use Rattle.layout.specs.Read.{Answer, Result, accepted, refused, answerOf, read
 use Rattle.layout.proofs.Exactly.{zones-length}
 use Rattle.reader.specs.Found.{Tables, Core, told, flatOf, blank, roomWith, coreBy, coreOf}
 use Rattle.reader.specs.Zones.{filled}
-use Rattle.reader.proofs.Few.{told-only, zones-are, core-few, core-room}
+use Rattle.reader.proofs.Cored.{zones-are}
+use Rattle.reader.proofs.Few.{told-only, core-few, core-room}
 use Rattle.reader.proofs.Zoned.{flat-length, filled-zones}
 use Rattle.reader.proofs.Through.{withZones}
 use Rattle.reader.proofs.Called.{flat-is-read}

@@ -11,6 +11,8 @@ use contract.Lifetimes.{Lfts}
 use denote.Triple.Entry.{Args}
 use Rattle.audit.proofs.audit as audit
 use Rattle.audit.proofs.audit.Reads as audits
+use Rattle.survey.proofs.locate as locate
+use Rattle.survey.proofs.locate.Reads as locates
 use Rattle.survey.proofs.survey as survey
 use Rattle.survey.proofs.survey.Reads as surveys
 use Rattle.reader.proofs.read as read
@@ -26,6 +28,9 @@ flat-asks-nothing κ a = tt
 
 pub survey-asks-nothing : (κ : Lfts 1) (a : Args survey.signature κ) → surveys.Pre κ a
 survey-asks-nothing κ a = tt
+
+pub locate-asks-nothing : (κ : Lfts 1) (a : Args locate.signature κ) → locates.Pre κ a
+locate-asks-nothing κ a = tt
 
 pub audit-asks-nothing : (κ : Lfts 4) (a : Args audit.signature κ) → audits.Pre κ a
 audit-asks-nothing κ a = tt

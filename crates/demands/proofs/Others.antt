@@ -1,4 +1,4 @@
--- Demand 1 of the other two readers, `reader::read_flat` and `survey::survey`; and demand 2 of the first: with its zone records laid into a list it is reading. Assumes nothing.
+-- Demand 1 of the other calls that read, `reader::read_flat`, `survey::survey` and `survey::locate`; and demand 2 of the first: with its zone records laid into a list it is reading. Assumes nothing.
 use Prim.Native.Nat.{ℕ}
 use mathlib.Core.Path.{_≡_, sym, ap, _∙_}
 use mathlib.Core.List.{List}
@@ -23,7 +23,8 @@ use Rattle.reader.proofs.Only.{read-flat-only}
 use Rattle.reader.proofs.Called.{flat-is-read}
 use Rattle.reader.proofs.read_flat as flat
 use Rattle.reader.proofs.read_flat.Reads as flats
-use Rattle.survey.proofs.Only.{survey-only}
+use Rattle.survey.proofs.Only.{survey-only, locate-only}
+use Rattle.survey.proofs.locate.Reads as locates
 use Rattle.survey.proofs.survey.Reads as surveys
 
 abbrev withList : Tables → List Zone → Lent
@@ -63,3 +64,6 @@ module _ (κ : Lfts 5) (a : Args flat.signature κ) (r : Res flat.signature κ) 
 
 pub surveyed-only : Only surveys.Post
 surveyed-only = survey-only
+
+pub located-only : Only locates.Post
+located-only = locate-only

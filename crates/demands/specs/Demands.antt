@@ -51,7 +51,7 @@ left κ r x = out (valuesOf r) (now (x .1 .1 .1 .1 .1 .1 .0)) (now (x .1 .1 .1 .
 
 -- ---- 1. "Every file and every table gets an answer. Each refusal carries its number, and for a file the section and byte where it broke.
 -- A refused call leaves the lent tables and lists as they were." Nothing is asked of a file or a table (proofs/Asks), and the prover shows that each call returns.
--- The other two readers, `reader::read_flat` and `survey::survey`, are in proofs/Others.
+-- The other calls that read, `reader::read_flat`, `survey::survey` and `survey::locate`, are in proofs/Others.
 pub record FileAnswered (κ : Lfts 6) (a : Args read.signature κ) (r : Res read.signature κ) (x : AtExit read.ended κ) : Type 0 where
   -- no second answer and no second content. Not: a contract that two answers meet (numbers/any_place_would_do)
   pub only : (r′ : Res read.signature κ) (x′ : AtExit read.ended κ) → Post κ a r′ x′ → (r ≡ r′) × (leaves κ x ≡ leaves κ x′)

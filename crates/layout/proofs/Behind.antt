@@ -87,6 +87,12 @@ body-behind (face-mixed p) = enclosed-behind Mixed mixed-behind p
 body-behind (face-same {c = c} h p) = enclosed-behind (Facing c) (facing-behind c) p
 
 -- ---- sections
+pub section-behind : {ts us : List Tok} {i : Item} → Section ts i us → Behind us ts
+section-behind (two i h r) = and-on (number-behind i) (and-on (number-behind h) (right-behind r))
+section-behind (declares k i a z q) = and-on (number-behind i) (and-on (heading-behind a) (right-behind q))
+section-behind (regular k i a z b q) = and-on (number-behind i) (and-on (heading-behind a) (and-on (body-behind b) (right-behind q)))
+section-behind (stepped i s h) = and-on (number-behind i) (inside-behind h)
+
 -- a section takes its id at least, so that a file has no more sections than tokens
 pub section-less : {ts us : List Tok} {i : Item} → Section ts i us → length us < length ts
 section-less (two i h r) = omega (arith, number-less i, behind-length (and-on (number-behind h) (right-behind r)))

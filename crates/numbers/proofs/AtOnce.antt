@@ -1,81 +1,47 @@
 -- Hexadecimal digits at the start of some bytes: the laws of the code, and that they are the number of the word that they make. Assumes nothing.
 use Prim.Native.Nat.{ℕ, suc, zero, _+_, _-_, _*_, _%_, _^_, _≤_, _<_, min, zero-le}
+use native.Mathlib.Nat.{lt-of-lt-of-le, pow-le-pow-right}
 use native.Mathlib.Omega.{arith}
 use mathlib.Core.Path.{_≡_, refl, sym, ap, subst, _∙_}
 use mathlib.Core.List.{List, [], _∷_, _++_}
 use mathlib.Core.Bool.{Bool, true, false, _&&_}
-use borrow.Author.Tests.{le-leb, lt-leb, leb-true, leb-false}
-use lib.Dec.{leb, ltb}
+use borrow.Author.Tests.{le-leb, lt-leb, leb-true}
+use lib.Dec.{leb, ltb, lit<}
 use lib.ListN.{length, take, drop, getD, length-append}
-use lib.Seq.{take-append-seam}
+use lib.Seq.{take-append-seam, take-all}
 use Rattle.facts.proofs.Branch.{split, either}
 use Rattle.numbers.specs.declared.whole.Whole.{Whole}
 use Rattle.numbers.specs.declared.quick.Hexes.{Hexes}
+use Rattle.numbers.specs.declared.group.Group.{Group}
+use Rattle.numbers.specs.Lanes.{Laned, groupBy, Grouped}
 use Rattle.numbers.specs.Whole.{within, digitOf, Digits, digits, digitsIn, hexadecimalOf}
 use Rattle.numbers.specs.Value.{Figures}
 use Rattle.numbers.specs.Hexes.{hexesBy, hexesOf}
-use Rattle.numbers.proofs.Digits.{within-is, Run, digitsIn-part, digitsIn-exact, Begins, NoDigit}
+use Rattle.numbers.proofs.Digits.{within-is, Run, digitsIn-below, digitsIn-part, digitsIn-exact, Begins, NoDigit}
 use Rattle.numbers.proofs.Pieces.{wholeOf-exact, wholeOf-exactly}
 
-within-yes : (low high b : ℕ) → low ≤ b → b ≤ high → within low high b ≡ true
-within-yes low high b l h = ap (λ (t : Bool). t && leb b high) (le-leb low b l) ∙ le-leb b high h
-
-within-below : (low high b : ℕ) → b < low → within low high b ≡ false
-within-below low high b h = ap (λ (t : Bool). t && leb b high) (lt-leb low b h)
-
-within-above : (low high b : ℕ) → high < b → within low high b ≡ false
-within-above low high b h = split (leb low b) (λ p. ap (λ (t : Bool). t && leb b high) p ∙ lt-leb b high h) (λ p. ap (λ (t : Bool). t && leb b high) p)
-
--- ---- a run of digits: `from` is how far b lies behind low, the bytes taken as a ring
-abbrev chosen : Bool → ℕ → ℕ
-chosen t v = elim t [ true ↦ v | false ↦ 16 ]
-
-abbrev valueIn : ℕ → ℕ → ℕ → ℕ → ℕ
-valueIn low n first b = chosen (within low (low + n - 1) b) (b - low + first)
-
-module _ (b low n first from : ℕ) (e : (from + low) % 2 ^ 8 ≡ b) (small : from < 256) (lows : low < 256) (some : 0 < n) (ring : low + n ≤ 256) where
-  pub value-inside : from < n → from + first ≡ valueIn low n first b
-  value-inside h =
-      let z : b ≡ from + low = omega (arith, e) in
-      let v : from + first ≡ b - low + first = omega (arith, z) in
-      v ∙ sym (ap (λ t. chosen t (b - low + first)) (within-yes low (low + n - 1) b (omega (arith, z)) (omega (arith, z))))
-
-  outside : n ≤ from → within low (low + n - 1) b ≡ false
-  outside h =
-      split (leb low b) (λ p. within-above low (low + n - 1) b (let l = leb-true low b p in omega (arith, e, l)))
-      (λ p. within-below low (low + n - 1) b (leb-false low b p))
-
-  pub value-outside : n ≤ from → 16 ≡ valueIn low n first b
-  value-outside h = sym (ap (λ t. chosen t (b - low + first)) (outside h))
-
--- ---- three runs, of which a byte is in one at most
-abbrev least-of : Bool → Bool → Bool → ℕ → ℕ
-least-of p q r b = min (chosen p (b - 48 + 0)) (min (chosen q (b - 97 + 10)) (chosen r (b - 65 + 10)))
-
-three : (b : ℕ) (p q r : Bool) → within 48 57 b ≡ p → within 97 102 b ≡ q → within 65 70 b ≡ r
-    → min (valueIn 48 10 0 b) (min (valueIn 97 6 10 b) (valueIn 65 6 10 b)) ≡ least-of p q r b
-three b p q r e f g = λ i. min (chosen (e i) (b - 48 + 0)) (min (chosen (f i) (b - 97 + 10)) (chosen (g i) (b - 65 + 10)))
-
-pub at-once : (b : ℕ) → min (valueIn 48 10 0 b) (min (valueIn 97 6 10 b) (valueIn 65 6 10 b)) ≡ digitOf b
-unfolding digitOf
-at-once b =
-    split (within 48 57 b)
-    (λ p. let h = within-is 48 57 b p in three b true false false p (within-below 97 102 b (omega (arith, h))) (within-below 65 70 b (omega (arith, h))) ∙ rw (p, digitOf) (omega (arith, h)))
-    (λ p. split (within 65 70 b)
-    (λ q. let h = within-is 65 70 b q in three b false false true p (within-below 97 102 b (omega (arith, h))) q ∙ rw (p, q, digitOf) (omega (arith, h)))
-    (λ q. split (within 97 102 b)
-    (λ r. let h = within-is 97 102 b r in three b false true false p r q ∙ rw (p, q, r, digitOf) (omega (arith, h)))
-    (λ r. three b false false false p r q ∙ rw (p, q, r, digitOf) refl)))
-
--- ---- what the loop has read
+-- ---- what is read
 module _ (w : List ℕ) where
   pub hexes-long : 8 < length w → record { value = 0; count = 0 } ≡ hexesOf w
   unfolding hexesOf
   hexes-long h = rw (lt-leb (length w) 8 h, hexesOf)
 
-  pub hexes-are : (v i : ℕ) (rest : List ℕ) → length w ≤ 8 → digits v i rest ≡ digitsIn 16 0 0 w → record { value = v; count = i } ≡ hexesOf w
+  -- the digits of all the bytes at once
+  pub hexes-grouped : (x : ℕ) (g : Group) → length w ≤ 8 → Laned (take 8 (drop 0 w)) x → Grouped true x g → g ≡ groupBy (digitsIn 16 0 0 w)
+  hexes-grouped x g h l s =
+      let e : take 8 (drop 0 w) ≡ w = take-all 8 w h in
+      s .says w (subst (λ v. Laned v x) e l) h
+
+  pub hexes-are : (g : Group) → length w ≤ 8 → g ≡ groupBy (digitsIn 16 0 0 w) → record { value = g .value; count = g .count } ≡ hexesOf w
   unfolding hexesOf
-  hexes-are v i rest h e = ap hexesBy e ∙ rw (le-leb (length w) 8 h, hexesOf)
+  hexes-are g h e = ap (λ (d : Group). record { value = d .value; count = d .count }) e ∙ rw (le-leb (length w) 8 h, hexesOf)
+
+  pub hexes-small : (g : Group) → length w ≤ 8 → g ≡ groupBy (digitsIn 16 0 0 w) → g .value < 2 ^ 32
+  hexes-small g h e =
+      let r = digitsIn-part 16 w 0 0 in
+      let d = digitsIn 16 0 0 w in
+      let few : d .count ≤ 8 = omega (arith, h, r .count, ap length (r .parted), length-append (r .run) (d .rest)) in
+      subst (λ (v : ℕ). v < 2 ^ 32) (sym (ap (λ (d : Group). d .value) e)) (lt-of-lt-of-le (digitsIn-below 16 w 0 0 (lit< tt)) (pow-le-pow-right (lit< tt) few))
 
 -- ---- as a word
 figure-at : (run rest : List ℕ) (i : ℕ) → Figures 16 run → i < length run → digitOf (getD (run ++ rest) i 0) < 16

@@ -2,14 +2,14 @@
 use Prim.Native.Nat.{ℕ, suc, _+_, _*_, _^_, _≤_, _<_}
 use native.Mathlib.Nat.{pow-suc}
 use native.Mathlib.Omega.{arith}
-use mathlib.Core.Path.{_≡_, refl, ap, _∙_}
+use mathlib.Core.Path.{_≡_, refl, ap, subst, _∙_}
 use mathlib.Core.List.{List, [], _∷_, _++_}
 use mathlib.Core.Bool.{Bool, true, false, _&&_}
 use borrow.Author.Tests.{lt-ltb, ltb-true, leb-true}
 use lib.Arith.{digits-lt}
 use lib.Dec.{ltb, leb}
 use lib.ListN.{length}
-use Rattle.facts.proofs.Branch.{either, differ}
+use Rattle.facts.proofs.Branch.{either, both, differ}
 use Rattle.numbers.specs.Whole.{within, digitOf, Digits, digits, digitsIn}
 use Rattle.numbers.specs.Value.{Figures, worth}
 
@@ -35,6 +35,11 @@ decimal-byte b =
     Goal : ℕ → Type 0
     Goal d = d < 10 → (48 ≤ b) × (b ≤ 57)
 
+-- and each of these is one
+pub byte-decimal : (b : ℕ) → within 48 57 b ≡ true → digitOf b < 10
+unfolding digitOf
+byte-decimal b h = rw (h, digitOf) (omega (arith, within-is 48 57 b h))
+
 -- the first byte, where there is one
 abbrev pub Begins : (ℕ → Type 0) → List ℕ → Type 0
 Begins P [] = Unit
@@ -49,8 +54,38 @@ module _ (base : ℕ) where
       either (λ (d : Digits). d .value < base ^ d .count) (ltb (digitOf b) base)
       (λ p. digitsIn-below w _ (suc n) (rw pow-suc (digits-lt h (ltb-true _ _ p)))) (λ _. h)
 
+  -- what was read before the digits changes neither their number nor what stands behind them
+  abbrev pub Alike : ℕ → ℕ → Digits → Digits → Type 0
+  Alike n m d e = (d .count + m ≡ e .count + n) × (d .rest ≡ e .rest)
+
+  pub digitsIn-alike : (w : List ℕ) (v u n m : ℕ) → Alike n m (digitsIn base v n w) (digitsIn base u m w)
+  unfolding digitsIn
+  digitsIn-alike [] v u n m = (omega arith, refl)
+  digitsIn-alike (b ∷ w) v u n m =
+      both (Alike n m) (ltb (digitOf b) base)
+      (λ _. let a = digitsIn-alike w (v * base + digitOf b) (u * base + digitOf b) (suc n) (suc m) in (omega (arith, a .0), a .1)) (λ _. (omega arith, refl))
+
+  digitsIn-value : (w : List ℕ) (v n m : ℕ) → digitsIn base v n w .value ≡ digitsIn base v m w .value
+  unfolding digitsIn
+  digitsIn-value [] v n m = refl
+  digitsIn-value (b ∷ w) v n m =
+      both (λ (d e : Digits). d .value ≡ e .value) (ltb (digitOf b) base) (λ _. digitsIn-value w _ (suc n) (suc m)) (λ _. refl)
+
+  -- behind k digits that write v they write a number below base ^ (k + how many they are)
+  pub digitsIn-after : (w : List ℕ) (v k : ℕ) → v < base ^ k → digitsIn base v 0 w .value < base ^ (k + digitsIn base v 0 w .count)
+  digitsIn-after w v k h =
+      let c : digitsIn base v k w .count ≡ k + digitsIn base v 0 w .count = omega (arith, digitsIn-alike w v v k 0 .0) in
+      subst (λ n. digitsIn base v 0 w .value < base ^ n) c (subst (λ d. d < base ^ digitsIn base v k w .count) (digitsIn-value w v k 0) (digitsIn-below w v k h))
+
   abbrev pub NoDigit : ℕ → Type 0
   NoDigit b = ltb (digitOf b) base ≡ false
+
+  -- no digit stands behind them
+  pub digitsIn-stops : (w : List ℕ) (v n : ℕ) → Begins NoDigit (digitsIn base v n w .rest)
+  unfolding digitsIn
+  digitsIn-stops [] v n = tt
+  digitsIn-stops (b ∷ w) v n =
+      either (λ (d : Digits). Begins NoDigit (d .rest)) (ltb (digitOf b) base) (λ _. digitsIn-stops w _ (suc n)) (λ p. p)
 
   -- digits and then something else: all of the digits are read
   pub digitsIn-exact : (a r : List ℕ) (v n : ℕ) → Figures base a → Begins NoDigit r

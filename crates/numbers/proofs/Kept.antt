@@ -62,7 +62,7 @@ module _ (n : Bool) where
 pub below-value : (k : Whole) (v n : ℕ) → Below n k → k ≡ Whole.Is v → v < n
 below-value k v n b e = rw e at b
 
-pub mild-sign : (n : Bool) (k : ℕ) → k < 1000 → mag (signOf n k) < 1000
+pub mild-sign : (n : Bool) (k : ℕ) {most : ℕ} → k < most → mag (signOf n k) < most
 mild-sign true k h = omega (arith, mag-neg k)
 mild-sign false k h = h
 

@@ -1,5 +1,5 @@
 -- The coordinate at the start of some bytes: what the code that reads it needs of the definitions. Assumes nothing.
-use Prim.Native.Nat.{ℕ, _+_, _-_, _≤_, _<_}
+use Prim.Native.Nat.{ℕ, _+_, _-_, _^_, _≤_, _<_}
 use native.Mathlib.Nat.{pow-zero, pow-le-pow-right, mul-one}
 use native.Mathlib.Numerals.{add-one}
 use native.Mathlib.Omega.{arith}
@@ -36,8 +36,9 @@ small x v s h =
     let t = s .room (omega (arith, e, at-least (x .m) (x .tail))) in
     e ∙ rw (t, pow-zero, mul-one (x .m)))
 
-few-small : (w : List ℕ) → digitsIn 10 0 0 w .count ≤ 3 → digitsIn 10 0 0 w .value < 1000
-few-small w h = omega (arith, digitsIn-below 10 w 0 0 (rw pow-zero (lit< tt)), pow-le-pow-right {n = 10} (lit< tt) {i = digitsIn 10 0 0 w .count} {j = 3} h)
+pub few-small : (w : List ℕ) (most : ℕ) → digitsIn 10 0 0 w .count ≤ most → digitsIn 10 0 0 w .value < 10 ^ most
+few-small w most h =
+    omega (arith, digitsIn-below 10 w 0 0 (rw pow-zero (lit< tt)), pow-le-pow-right {n = 10} (lit< tt) {i = digitsIn 10 0 0 w .count} {j = most} h)
 
 module _ (n : Bool) (d : Digits) where
   tens-few : d .count < 1 → tensBy n d ≡ Power.Not
@@ -46,12 +47,12 @@ module _ (n : Bool) (d : Digits) where
   tens-many : 3 < d .count → tensBy n d ≡ Power.Not
   tens-many h = rw (le-leb 1 (d .count) (omega arith), lt-leb (d .count) 3 h, tensBy)
 
-  tens-is : 1 ≤ d .count → d .count ≤ 3 → tensBy n d ≡ Power.Is (signOf n (d .value))
+  pub tens-is : 1 ≤ d .count → d .count ≤ 3 → tensBy n d ≡ Power.Is (signOf n (d .value))
   tens-is l m = rw (le-leb 1 (d .count) l, le-leb (d .count) 3 m, tensBy)
 
 tens-mild : (n : Bool) (w : List ℕ) → Mild (tensBy n (digitsIn 10 0 0 w))
 tens-mild n w =
-    either Mild (within 1 3 (digitsIn 10 0 0 w .count)) (λ p. mild-sign n _ (few-small w (within-is 1 3 (digitsIn 10 0 0 w .count) p .1))) (λ _. tt)
+    either Mild (within 1 3 (digitsIn 10 0 0 w .count)) (λ p. mild-sign n _ (few-small w 3 (within-is 1 3 (digitsIn 10 0 0 w .count) p .1))) (λ _. tt)
 
 -- ---- behind the `e`
 abbrev powerLead : Power → ℕ → PowerLead
@@ -72,7 +73,7 @@ module _ (w : List ℕ) (at : ℕ) (s : Sign) (g : SignAt w at s) (d : Scan) (a 
   marked-many h = marked-is Power.Not (sym (tens-many (signIn (drop at w) .negative) (frontOf (drop at w)) (omega (arith, shown .count))))
 
   value-less : d .count ≤ 3 → frontOf (drop at w) .value < 1000
-  value-less h = few-small (signIn (drop at w) .rest) (omega (arith, shown .count))
+  value-less h = few-small (signIn (drop at w) .rest) 3 (omega (arith, shown .count))
 
   value-is : d .count ≤ 3 → frontOf (drop at w) .value ≡ d .m
   value-is h = small d _ (shown .value) (value-less h)

@@ -15,5 +15,12 @@ mod Words
 pub mod AtOnce
 mod Leading
 pub mod Led
+mod Mildly
+pub mod Harmless
 pub mod Only
 pub mod Bad
+pub mod Laning
+pub mod Grouping
+pub mod Gathered
+mod Beside
+mod Eights

@@ -3,7 +3,10 @@ use mathlib.Core.Path.{sym, _∙_}
 use Rattle.facts.specs.Only.{Only}
 use Rattle.numbers.proofs.coordinates.coordinate.Reads as coordinate
 use Rattle.numbers.proofs.quick.hexes_in.Reads as hexes-in
+use Rattle.numbers.proofs.group.marks.Reads as marks
+use Rattle.numbers.proofs.lanes.bytes_at.Reads as bytes-at
 use Rattle.numbers.proofs.leads.lead.Reads as lead
+use Rattle.numbers.proofs.mild.mild_in.Reads as mild-in
 use Rattle.numbers.proofs.signed.magnitude.Reads as magnitude
 use Rattle.numbers.proofs.sort.bad_at.Reads as bad-at
 use Rattle.numbers.proofs.whole.hexadecimal.Reads as hexadecimal
@@ -21,6 +24,9 @@ coordinate-only κ a r r′ x x′ p q = p ∙ sym q
 pub lead-only : Only lead.Post
 lead-only κ a r r′ x x′ p q = p ∙ sym q
 
+pub mild-in-only : Only mild-in.Post
+mild-in-only κ a r r′ x x′ p q = p ∙ sym q
+
 pub magnitude-only : Only magnitude.Post
 magnitude-only κ a r r′ x x′ p q = p ∙ sym q
 
@@ -29,3 +35,9 @@ bad-at-only κ a r r′ x x′ p q = p ∙ sym q
 
 pub hexes-in-only : Only hexes-in.Post
 hexes-in-only κ a r r′ x x′ p q = p ∙ sym q
+
+pub marks-only : Only marks.Post
+marks-only κ a r r′ x x′ p q = p ∙ sym q
+
+pub bytes-at-only : Only bytes-at.Post
+bytes-at-only κ a r r′ x x′ p q = p .same ∙ sym (q .same)

@@ -25,7 +25,7 @@ unfolding starts
 neither [] n p = tt
 neither (b ∷ l) n p = (n, p)
 
-not-point : (l : List ℕ) → starts 46 l ≡ false → Begins NoPoint l
+pub not-point : (l : List ℕ) → starts 46 l ≡ false → Begins NoPoint l
 unfolding starts
 not-point [] n = tt
 not-point (b ∷ l) n = n
@@ -78,7 +78,7 @@ module _ (w : List ℕ) (at : ℕ) where
   sign-none l n p = record { says = sym (signIn-exact (drop at w) unsigned (neither (drop at w) n p)); within = l }
 
   -- ---- a point
-  point-here : (v : ℕ) → starts 46 (drop at w) ≡ true → digitsIn 10 v 0 (drop (at + 1) w) ≡ fractionIn v (drop at w)
+  pub point-here : (v : ℕ) → starts 46 (drop at w) ≡ true → digitsIn 10 v 0 (drop (at + 1) w) ≡ fractionIn v (drop at w)
   unfolding fractionIn
   point-here v t = rw (drop-cons w at 0 (within 46 t), add-one at, byte-is 46 t, fractionIn)
 

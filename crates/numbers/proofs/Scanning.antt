@@ -17,7 +17,7 @@ use Rattle.numbers.proofs.Tens.{at-least, times-ten}
 use Rattle.numbers.proofs.Places.{digitsIn-more, digitsIn-stop, digitsIn-past}
 
 -- ---- one more digit
-wide-more : (v d : ℕ) → Wide v → d < 10 → Wide (v * 10 + d)
+pub wide-more : (v d : ℕ) → Wide v → d < 10 → Wide (v * 10 + d)
 wide-more v zero w h =
     record { core = w .core; zeros = suc (w .zeros); whole = omega (arith, times-ten (w .core) (w .zeros), w .whole); ends = w .ends; many = w .many }
 wide-more v (suc d) w h =
@@ -95,7 +95,7 @@ pub scan-less : (w : List ℕ) (x r : Scan) (d : ℕ) → r ≡ grown x d → x 
 scan-less w x r d q h = omega (arith, ap (λ (r : Scan). r .next) q, grown-more x d)
 
 module _ (w : List ℕ) (from x : Scan) (f : Fair w x) (g : Runs w from x) where
-  shown : ((v : ℕ) → digits v (x .count) (drop (x .next) w) ≡ digitsIn 10 v (x .count) (drop (x .next) w))
+  pub shown : ((v : ℕ) → digits v (x .count) (drop (x .next) w) ≡ digitsIn 10 v (x .count) (drop (x .next) w))
       → Scanned w from x (λ v. digitsIn 10 v (from .count) (drop (from .next) w))
   shown e = record { fair = f; shows = λ v h. shows (g v h) }
     where

@@ -5,3 +5,5 @@ pub mod Value
 pub mod Bad
 pub mod Parts
 pub mod Hexes
+pub mod Lanes
+pub mod Mild

@@ -13,6 +13,7 @@ use Rattle.numbers.specs.declared.power.Power.{Power}
 use Rattle.numbers.specs.declared.power.PowerLead.{PowerLead}
 use Rattle.numbers.specs.declared.scan.Sign.{Sign}
 use Rattle.numbers.specs.declared.scan.Scan.{Scan}
+use Rattle.numbers.specs.declared.group.Group.{Group}
 use Rattle.numbers.specs.declared.decimal.Cut.{Cut}
 use Rattle.numbers.specs.declared.decimal.Decimal.{Decimal}
 use Rattle.numbers.specs.Whole.{Digits}
@@ -63,6 +64,18 @@ grown x d =
             | false ↦ scan (x .m) (x .tail) true (x .count + 1) (x .next + 1)
           ]
     ]
+
+-- some digits more, where there is room for all of them
+abbrev pub joined : Scan → Group → Scan
+joined x g = scan (x .m * 10 ^ g .count + g .value) (x .tail) (x .over) (x .count + g .count) (x .next + g .count)
+
+-- with so few digits in m there is room for eight more
+pub record Roomy (x : Scan) (g : Group) : Type 0 where
+  pub less : x .m < 10 ^ 10
+  pub few : g .count ≤ 8
+  pub small : g .value < 10 ^ g .count
+  pub within : x .next ≤ coordinateBytes
+  pub count : x .count ≤ x .next
 
 -- a state at a place of a word
 pub record Fair (w : List ℕ) (x : Scan) : Type 0 where

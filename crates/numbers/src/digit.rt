@@ -2,7 +2,7 @@
 ghost use mathlib.Core.Path.{_≡_};
 ghost use Rattle.numbers.specs.Whole.{within, digitOf};
 
-fn is_within(low: u8, high: u8, b: u8) -> bool
+pub(crate) fn is_within(low: u8, high: u8, b: u8) -> bool
     ensures { λ r. ⌜ r ≡ within low high b ⌝ }
 {
     low <= b && b <= high

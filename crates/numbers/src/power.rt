@@ -23,7 +23,7 @@ pub(crate) struct PowerLead {
     pub next: usize,
 }
 
-fn is_mark(b: u8) -> bool
+pub(crate) fn is_mark(b: u8) -> bool
     ensures { λ r. ⌜ r ≡ isMark b ⌝ }
 {
     b == 101 || b == 69

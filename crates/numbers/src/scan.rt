@@ -1,14 +1,20 @@
 // The parts of a coordinate word, each read at a place of the word.
 ghost use mathlib.Core.Path.{_≡_};
-ghost use Prim.Native.Nat.{_≤_, _<_};
+ghost use Prim.Native.Nat.{_^_, _≤_, _<_};
 ghost use lib.ListN.{length, drop};
 ghost use Rattle.numbers.specs.Whole.{digitsIn};
 ghost use Rattle.numbers.specs.Coordinate.{fractionIn};
-ghost use Rattle.numbers.specs.Parts.{starts, SignAt, Fair, Scanned, grown};
+ghost use Rattle.numbers.specs.Parts.{starts, SignAt, Fair, Scanned, grown, joined, Roomy};
 use super::digit::digit_of;
+use super::group::Group;
+use super::group::group_of;
+use super::lanes::bytes_at;
 
 // With 17 digits in m there is room for one more.
 const ROOM: u64 = 100000000000000000;
+
+// With 10 digits in m there is room for eight more.
+const WIDE_ROOM: u64 = 10000000000;
 
 pub(crate) struct Sign {
     pub negative: bool,
@@ -26,7 +32,7 @@ pub(crate) struct Scan {
 }
 
 // Does this byte stand at this place?
-fn stands_at(w: &[u8], at: usize, b: u8) -> bool
+pub(crate) fn stands_at(w: &[u8], at: usize, b: u8) -> bool
     ensures { λ r. ⌜ r ≡ starts b (drop at (now (w .entry))) ⌝ }
 {
     if at < w.len() {
@@ -113,6 +119,75 @@ pub(crate) fn digits_from(w: &[u8], from: Scan) -> Scan
     }
 }
 
+fn ten_to(n: u32) -> u64
+    requires { ⌜ n ≤ 8 ⌝ }
+    ensures { λ r. ⌜ r ≡ 10 ^ n ⌝ }
+{
+    if n == 8 {
+        return 100000000;
+    }
+    if n == 7 {
+        return 10000000;
+    }
+    if n == 6 {
+        return 1000000;
+    }
+    if n == 5 {
+        return 100000;
+    }
+    if n == 4 {
+        return 10000;
+    }
+    if n == 3 {
+        return 1000;
+    }
+    if n == 2 {
+        return 100;
+    }
+    if n == 1 {
+        return 10;
+    }
+    1
+}
+
+fn join(x: Scan, g: Group) -> Scan
+    requires { ⌜ Roomy x g ⌝ }
+    ensures { λ r. ⌜ r ≡ joined x g ⌝ }
+{
+    let n = g.count;
+    let power = ten_to(n);
+    let m = x.m * power + g.value;
+    let count = x.count + n;
+    let step = n as usize;
+    let next = x.next + step;
+    Scan {
+        m,
+        tail: x.tail,
+        over: x.over,
+        count,
+        next,
+    }
+}
+
+// As `digits_from`, eight bytes at a time while there is room for eight digits.
+fn many_from(w: &[u8], from: Scan) -> Scan
+    requires { ⌜ Fair (now w) from ⌝ }
+    ensures { λ r. ⌜ Scanned (now (w .entry)) from r (λ v. digitsIn 10 v (from .count) (drop (from .next) (now (w .entry)))) ⌝ }
+{
+    let mut x = from;
+    while x.m < WIDE_ROOM {
+        let at = x.next;
+        let bytes = bytes_at(w, at);
+        let g = group_of(bytes, false);
+        let n = g.count;
+        x = join(x, g);
+        if n < 8 {
+            return x;
+        }
+    }
+    digits_from(w, x)
+}
+
 // The digits behind the point, where one stands here.
 pub(crate) fn fraction_from(w: &[u8], x: Scan) -> Scan
     requires { ⌜ Fair (now w) x ⌝ }
@@ -121,7 +196,7 @@ pub(crate) fn fraction_from(w: &[u8], x: Scan) -> Scan
     let at = x.next;
     if stands_at(w, at, 46) {
         let next = at + 1;
-        return digits_from(
+        return many_from(
             w,
             Scan {
                 m: x.m,

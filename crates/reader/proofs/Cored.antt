@@ -1,33 +1,33 @@
--- A file that was accepted is a good one for the second pass: its items, their widths, the records so far. So the two passes together are reading. Assumes nothing.
-use Prim.Native.Nat.{ℕ, zero, suc, _+_, _*_, _≤_, _<_, min}
+-- A file that was accepted is a good one for the second pass: its items, their widths, their places, the records so far. So the two passes together are reading. Assumes nothing.
+use Prim.Native.Nat.{ℕ, suc, _+_, _≤_, _<_, zero-le}
 use native.Mathlib.Omega.{arith}
 use native.Mathlib.Nat.{min-eq-left, min-le-right}
 use mathlib.Core.Path.{_≡_, refl, sym, _∙_, ap, subst}
 use mathlib.Core.Logic.{_⊎_, inl, inr}
 use mathlib.Core.List.{List, [], _∷_, _++_, append-assoc}
-use lib.IntN.{ℤ}
-use lib.ListN.{length}
+use lib.ListN.{length, getD, set, replicate, length-set}
+use lib.Seq.{sets, getD-set-same, getD-set-other}
 use Rattle.facts.proofs.Decides.{either-of}
 use Rattle.mesh.specs.Rows.{nodeWords}
+use Rattle.sizes.specs.Sizes.{zones}
 use Rattle.tokens.specs.Listed.{Tok, tokensFrom}
 use Rattle.tokens.proofs.Text.{text-exactly}
 use Rattle.layout.specs.declared.Refusal.{Refusal}
 use Rattle.layout.specs.declared.Reply.{Reply}
-use Rattle.layout.specs.Items.{Kind, Perhaps, absent, given, Header, Body, points, elements, facets, Wide, Item, dim, decl, part, other, saysDim}
-use Rattle.layout.specs.Grammar.{File}
+use Rattle.layout.specs.Items.{Perhaps, absent, given, Body, points, elements, facets, Wide, Item, dim, decl, part, other, saysDim}
 use Rattle.layout.specs.Keeps.{Room, Some, SaysDim, DimFits, WidthFits, Fits, partsIn, Laid}
-use Rattle.layout.specs.Says.{LaidText}
 use Rattle.layout.specs.State.{State, start, afterAll}
-use Rattle.layout.specs.Read.{Answer, accepted, refused, answerOf, lay}
+use Rattle.layout.specs.Read.{Answer, accepted, refused, answerOf}
 use Rattle.layout.proofs.Lists.{some-at, lifted, parts-append}
 use Rattle.layout.proofs.Dims.{dim-is}
 use Rattle.layout.proofs.Sums.{Seen}
 use Rattle.layout.proofs.Each.{laid-seen}
 use Rattle.layout.proofs.Accepts.{laid-of, stated}
 use Rattle.survey.specs.Files.{verdict}
-use Rattle.reader.specs.declared.core.Found.{Found}
+use Rattle.survey.specs.Sites.{sitesOf, placesOf}
+use Rattle.survey.proofs.Sites.{sites-stand, all-stand}
 use Rattle.reader.specs.Found.{blank, Tables, Core, coordinatesIn, coreBy}
-use Rattle.reader.specs.Passing.{Fit, AllFit, Tabled, laidFrom, Fills}
+use Rattle.reader.specs.Passing.{Fit, AllFit, Tabled, laidFrom, Has, Fills}
 
 -- ---- the items of a file that is laid out
 module _ (room : Room) (ts : List Tok) (is : List Item) (l : Laid room ts is) where
@@ -83,6 +83,31 @@ module _ (room : Room) (ts : List Tok) (is : List Item) (l : Laid room ts is) wh
   all-fit before (i ∷ rest) e =
       (fit-of before rest i e (l .fits before i rest e), subst (λ z. AllFit (end .dimension) z rest) (parts-append before (i ∷ [])) (all-fit (before ++ (i ∷ [])) rest (onward before rest i e)))
 
+-- ---- how many records
+parts-few : (d z : ℕ) (is : List Item) → z ≤ zones → AllFit d z is → z + partsIn is ≤ zones
+parts-few d z [] l f = omega arith
+parts-few d z (dim n ∷ is) l f = omega (arith, parts-few d (z + 0) is (omega arith) (f .1))
+parts-few d z (decl k h ∷ is) l f = omega (arith, parts-few d (z + 0) is (omega arith) (f .1))
+parts-few d z (part k h b ∷ is) l f = omega (arith, parts-few d (z + 1) is (omega (arith, f .0 .few)) (f .1))
+parts-few d z (other ∷ is) l f = omega (arith, parts-few d (z + 0) is (omega arith) (f .1))
+
+module _ (room : Room) (s : List ℕ) (x : State) (is : List Item) (e : answerOf room s ≡ accepted x is) where
+  pub zones-are : x .zones ≡ partsIn is
+  zones-are = ap (λ (y : State). y .zones) (stated room s x is e) ∙ laid-seen room (laid-of room s x is e .laid) .zones
+
+  pub few-zones : partsIn is ≤ zones
+  few-zones = let l = laid-of room s x is e in omega (arith, parts-few _ 0 is zero-le (all-fit room (l .tokens) is (l .laid) [] is refl))
+
+-- ---- their places
+sets-before : (ps l : List ℕ) (i k : ℕ) → k < i → getD (sets l i ps) k 0 ≡ getD l k 0
+sets-before [] l i k h = refl
+sets-before (p ∷ ps) l i k h = sets-before ps (set l i p) (suc i) k (omega arith) ∙ getD-set-other l i k p 0 (λ e. omega arith)
+
+has-sets : (ps l : List ℕ) (z : ℕ) → z + length ps ≤ length l → Has (sets l z ps) z ps
+has-sets [] l z h = tt
+has-sets (p ∷ ps) l z h =
+    (sets-before ps (set l z p) (suc z) z (omega arith) ∙ getD-set-same l z p 0 (omega arith), has-sets ps (set l z p) (suc z) (omega (arith, length-set l z p)))
+
 -- ---- the two passes
 abbrev dimOf : Reply → ℕ
 dimOf (Reply.Accepted d n f c z) = d
@@ -102,11 +127,18 @@ core-refused (accepted x is) r t e w k o q = absurd (let z : _≡_ {A = ℕ} 1 0
 core-refused (refused v j p) r t e w k o q = ap (λ y. record { found = record { reply = y; zones = 0; flat = blank }; held = t }) e
 
 module _ (room : Room) (s : List ℕ) (t : Tables) (r : Reply) (e : r ≡ verdict (answerOf room s)) (d n f c z : ℕ) (q : r ≡ Reply.Accepted d n f c z) where
-  by-answer : (a : Answer) → answerOf room s ≡ a → (width : ℕ) → width ≡ coordinatesIn d → (new : Tabled) → Fills s width (record { mantissas = t .mantissas; exponents = t .exponents; faces = t .faces; cells = t .cells; list = blank }) new
-      → (count : ℕ) → count ≡ z
+  few-by : (a : Answer) → answerOf room s ≡ a → z ≤ zones
+  few-by (refused w k o) u = absurd (let y : _≡_ {A = ℕ} 1 0 = ap wanted (sym q ∙ e ∙ ap verdict u) in omega arith)
+  few-by (accepted x is) u = let y : z ≡ x .zones = ap zonesIn (sym q ∙ e ∙ ap verdict u) in omega (arith, zones-are room s x is u, few-zones room s x is u)
+
+  pub few-accepted : z ≤ zones
+  few-accepted = few-by (answerOf room s) refl
+
+  by-answer : (a : Answer) → answerOf room s ≡ a → (width : ℕ) → width ≡ coordinatesIn d → (places : List ℕ) → places ≡ placesOf room s → (count : ℕ) → count ≡ z
+      → (new : Tabled) → Fills s places count width (record { mantissas = t .mantissas; exponents = t .exponents; faces = t .faces; cells = t .cells; list = blank }) new
       → _≡_ {A = Core} (record { found = record { reply = Reply.Accepted d n f c z; zones = count; flat = new .list }; held = record { mantissas = new .mantissas; exponents = new .exponents; faces = new .faces; cells = new .cells } }) (coreBy a t)
-  by-answer (refused w k o) u width v new g count m = absurd (let y : _≡_ {A = ℕ} 1 0 = ap wanted (sym q ∙ e ∙ ap verdict u) in omega arith)
-  by-answer (accepted x is) u width v new g count m =
+  by-answer (refused w k o) u width v places pl count m new g = absurd (let y : _≡_ {A = ℕ} 1 0 = ap wanted (sym q ∙ e ∙ ap verdict u) in omega arith)
+  by-answer (accepted x is) u width v places pl count m new g =
       let l = laid-of room s x is u in
       let h = text-exactly s (l .tokens) .1 (l .text) in
       let k : Laid room (tokensFrom s 0) is = subst (λ y. Laid room y is) (sym h) (l .laid) in
@@ -114,15 +146,18 @@ module _ (room : Room) (s : List ℕ) (t : Tables) (r : Reply) (e : r ≡ verdic
       let a : d ≡ x .dimension = ap dimOf (sym q ∙ y) in
       let b : x .dimension ≡ afterAll start is .dimension = ap (λ (i : State). i .dimension) (stated room s x is u) in
       let w : width ≡ afterAll start is .dimension = v ∙ ap coordinatesIn (a ∙ b) ∙ width-is room (tokensFrom s 0) is k in
-      let new-is : new ≡ laidFrom is 0 (record { mantissas = t .mantissas; exponents = t .exponents; faces = t .faces; cells = t .cells; list = blank }) =
-      g is (k .file) (subst (λ i. AllFit i 0 is) (sym w) (all-fit room (tokensFrom s 0) is k [] is refl)) in
       let o : count ≡ x .zones = m ∙ ap zonesIn (sym q ∙ y) in
+      let stand = sites-stand room s x is u in
+      let long : length (sitesOf room s) ≡ partsIn is = all-stand s is (sitesOf room s) stand in
+      let has = subst (λ i. Has i 0 (sitesOf room s)) (sym pl) (has-sets (sitesOf room s) (replicate zones 0) 0 (omega (arith, long, few-zones room s x is u))) in
+      let new-is : new ≡ laidFrom is 0 (record { mantissas = t .mantissas; exponents = t .exponents; faces = t .faces; cells = t .cells; list = blank }) =
+      g is (sitesOf room s) stand has (long ∙ sym (zones-are room s x is u) ∙ sym o) (subst (λ i. AllFit i 0 is) (sym w) (all-fit room (tokensFrom s 0) is k [] is refl)) in
       ap (λ i. record { found = record { reply = i; zones = count; flat = new .list }; held = record { mantissas = new .mantissas; exponents = new .exponents; faces = new .faces; cells = new .cells } }) (sym q ∙ y)
       ∙ ap (λ i. record { found = record { reply = Reply.Accepted (x .dimension) (x .nodes .total) (x .faces .total) (x .cells .total) (x .zones); zones = i; flat = new .list }; held = record { mantissas = new .mantissas; exponents = new .exponents; faces = new .faces; cells = new .cells } }) o
       ∙ ap (λ (i : Tabled). record { found = record { reply = Reply.Accepted (x .dimension) (x .nodes .total) (x .faces .total) (x .cells .total) (x .zones); zones = x .zones; flat = i .list }; held = record { mantissas = i .mantissas; exponents = i .exponents; faces = i .faces; cells = i .cells } }) new-is
 
-  pub core-accepted : (width : ℕ) → width ≡ coordinatesIn d → (new : Tabled) → Fills s width (record { mantissas = t .mantissas; exponents = t .exponents; faces = t .faces; cells = t .cells; list = blank }) new
-      → (count : ℕ) → count ≡ z
+  pub core-accepted : (width : ℕ) → width ≡ coordinatesIn d → (places : List ℕ) → places ≡ placesOf room s → (count : ℕ) → count ≡ z
+      → (new : Tabled) → Fills s places count width (record { mantissas = t .mantissas; exponents = t .exponents; faces = t .faces; cells = t .cells; list = blank }) new
       → _≡_ {A = Core} (record { found = record { reply = Reply.Accepted d n f c z; zones = count; flat = new .list }; held = record { mantissas = new .mantissas; exponents = new .exponents; faces = new .faces; cells = new .cells } }) (coreBy (answerOf room s) t)
   core-accepted = by-answer (answerOf room s) refl
 

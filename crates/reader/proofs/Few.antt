@@ -1,25 +1,20 @@
 -- How many zone records reading finds: no more than a file may have sections, and no more than there is room for. So the records as numbers, laid into the list, are what reading leaves there. Assumes nothing.
-use Prim.Native.Nat.{ℕ, zero, suc, _+_, _≤_, _<_, zero-le}
+use Prim.Native.Nat.{ℕ, _≤_, zero-le}
 use native.Mathlib.Omega.{arith}
 use mathlib.Core.Path.{_≡_, refl, sym, _∙_, ap, subst}
-use mathlib.Core.List.{List, [], _∷_}
-use lib.ListN.{length}
-use Rattle.sizes.specs.Sizes.{zones}
-use Rattle.tokens.specs.Listed.{tokensFrom}
-use Rattle.layout.specs.Items.{Item, dim, decl, part, other}
-use Rattle.layout.specs.Keeps.{Room, Limit, most, Within, partsIn}
-use Rattle.layout.specs.Rows.{Lent, roomOf, zonesOf}
-use Rattle.layout.specs.State.{State, start, afterAll}
+use mathlib.Core.List.{List}
+use Rattle.layout.specs.Items.{Item}
+use Rattle.layout.specs.Keeps.{Room, most, Within, partsIn}
+use Rattle.layout.specs.Rows.{Lent, roomOf}
+use Rattle.layout.specs.State.{State}
 use Rattle.layout.specs.Read.{Answer, accepted, refused, answerOf, resultOf, readOf}
-use Rattle.layout.proofs.Each.{laid-seen}
 use Rattle.layout.proofs.Room.{laid-has-room}
-use Rattle.layout.proofs.Accepts.{laid-of, stated}
+use Rattle.layout.proofs.Accepts.{laid-of}
 use Rattle.layout.proofs.Exactly.{zones-length}
 use Rattle.layout.proofs.Shown.{shown-only}
 use Rattle.reader.specs.Found.{Tables, Core, Told, told, roomWith, coreBy, coreOf}
-use Rattle.reader.specs.Passing.{AllFit}
 use Rattle.reader.proofs.Through.{tablesIn, withZones, throughCore}
-use Rattle.reader.proofs.Cored.{all-fit}
+use Rattle.reader.proofs.Cored.{zones-are, few-zones}
 use Rattle.reader.proofs.Zoned.{zoned-accepted, zoned-refused}
 
 pub told-only : (a b : Core) → told a ≡ told b → a ≡ b
@@ -30,20 +25,7 @@ told-only a b e =
     let s = ap (λ (y : Told). y .held) e in
     λ i. record { found = record { reply = p i; zones = q i; flat = r i }; held = s i }
 
-parts-few : (d z : ℕ) (is : List Item) → z ≤ zones → AllFit d z is → z + partsIn is ≤ zones
-parts-few d z [] l f = omega arith
-parts-few d z (dim n ∷ is) l f = omega (arith, parts-few d (z + 0) is (omega arith) (f .1))
-parts-few d z (decl k h ∷ is) l f = omega (arith, parts-few d (z + 0) is (omega arith) (f .1))
-parts-few d z (part k h b ∷ is) l f = omega (arith, parts-few d (z + 1) is (omega (arith, f .0 .few)) (f .1))
-parts-few d z (other ∷ is) l f = omega (arith, parts-few d (z + 0) is (omega arith) (f .1))
-
 module _ (room : Room) (s : List ℕ) (x : State) (is : List Item) (e : answerOf room s ≡ accepted x is) where
-  pub zones-are : x .zones ≡ partsIn is
-  zones-are = ap (λ (y : State). y .zones) (stated room s x is e) ∙ laid-seen room (laid-of room s x is e .laid) .zones
-
-  few-zones : partsIn is ≤ zones
-  few-zones = let l = laid-of room s x is e in omega (arith, parts-few _ 0 is zero-le (all-fit room (l .tokens) is (l .laid) [] is refl))
-
   roomy-zones : (n : ℕ) → room .zones ≡ most n → partsIn is ≤ n
   roomy-zones n q = subst (λ y. Within y (partsIn is)) q (laid-has-room room (laid-of room s x is e .laid) .list)
 

@@ -1,41 +1,35 @@
 -- A section of a kind: its header, its rows, its record. Assumes nothing.
-use Prim.Native.Nat.{ℕ, zero, suc, _+_, _-_, _*_, _≤_, _<_}
+use Prim.Native.Nat.{ℕ, zero, suc, _+_, _-_, _*_, _≤_}
 use native.Mathlib.Omega.{arith}
 use mathlib.Core.Path.{_≡_, refl, sym, _∙_, ap, subst}
-use mathlib.Core.List.{List, [], _∷_, _++_, map, List·Memᴰ, List·Memᴰ·not-nil, List·Memᴰ·cases-cons}
+use mathlib.Core.List.{List, [], _∷_, map, List·Memᴰ, List·Memᴰ·not-nil, List·Memᴰ·cases-cons}
 use mathlib.Core.Bool.{Bool, true, false, _||_, false≢true}
-use borrow.Author.Tests.{eq-eqb, ne-eqb, ltb-true, ltb-false, le-ltb}
+use borrow.Author.Tests.{ne-eqb, ltb-false, le-ltb}
 use lib.Dec.{ltb, eqb}
-use lib.IntN.{ℤ, pos}
 use lib.ListN.{length, replicate}
 use lib.Seq.{sets}
-use Rattle.facts.proofs.Branch.{split, either}
-use Rattle.facts.proofs.Decides.{or-left, either-of}
+use Rattle.facts.proofs.Branch.{either}
+use Rattle.facts.proofs.Decides.{either-of}
 use Rattle.mesh.specs.declared.Zone.{Zone}
 use Rattle.mesh.specs.Rows.{places, nodeWords}
-use Rattle.sizes.specs.Sizes.{zones}
 use Rattle.tokens.specs.Listed.{Tok, tokensFrom}
-use Rattle.layout.specs.Items.{Kind, node, cell, face, Perhaps, absent, given, Header, countOf, Pair, Body, points, elements, facets, Item, dim, decl, part, other}
-use Rattle.layout.specs.Grammar.{Right, Heading, BodyOf}
-use Rattle.layout.specs.Keeps.{FifthOf, partsIn}
-use Rattle.layout.specs.State.{isNode}
-use Rattle.layout.specs.Rows.{Piece, Table, joined, pad, sameKind, pieceOf, piecesOf, zonesOf, zoneOf, nodeRows, cellRows, faceRow, faceRows, cellTable, faceTable}
-use Rattle.layout.specs.Reading.{Got, got, bad, pairWord, rowsOf, enclosedOf, rightOf}
-use Rattle.layout.specs.Sections.{Head, headerOf, headOf, elementOf, facingOf, mixedOf, bodyOf}
+use Rattle.layout.specs.Items.{Kind, node, cell, face, Perhaps, absent, given, Header, countOf, Pair, Body, points, elements, facets, Item, part}
+use Rattle.layout.specs.Grammar.{Heading}
+use Rattle.layout.specs.Keeps.{FifthOf}
+use Rattle.layout.specs.Rows.{Piece, Table, joined, pad, sameKind, pieceOf, zoneOf, nodeRows, cellRows, faceRow, faceRows, cellTable, faceTable}
+use Rattle.layout.specs.Reading.{pairWord, rowsOf, enclosedOf}
+use Rattle.layout.specs.Sections.{headerOf, headOf, elementOf, facingOf, mixedOf, bodyOf}
 use Rattle.layout.specs.Read.{lay}
 use Rattle.layout.proofs.Lists.{same-self}
-use Rattle.layout.proofs.CompleteWords.{right-is, body-is, Heads, head-is, lacks-decl, lacks-part}
+use Rattle.layout.proofs.CompleteWords.{body-is, Heads, head-is, lacks-part}
 use Rattle.judging.specs.Judging.{countFor}
 use Rattle.judging.proofs.Judging.{count-some}
-use Rattle.survey.specs.Noting.{more}
-use Rattle.survey.proofs.Noting.{more-in, more-out}
 use Rattle.reader.specs.declared.rows.Form.{Form}
 use Rattle.reader.specs.declared.tops.Top.{Top}
-use Rattle.reader.specs.declared.sections.Moved.{Moved}
-use Rattle.reader.specs.Found.{wordsOf, flatOf}
-use Rattle.reader.specs.Filling.{Then, Steps, rowRead, Placed, Both, setPairs, origin}
-use Rattle.reader.specs.Passing.{faceForm, Bodied, Fitting, Fit, Kinded, declared, filled, laidBy, Passed, Passes}
-use Rattle.reader.proofs.Steps.{then-is, steps-more, steps-pure}
+use Rattle.reader.specs.Found.{wordsOf}
+use Rattle.reader.specs.Filling.{Steps, rowRead, Placed, Both, setPairs, origin}
+use Rattle.reader.specs.Passing.{faceForm, Bodied, Fitting, Regular, laidBy, Recorded, Passes}
+use Rattle.reader.proofs.Steps.{then-is, steps-pure}
 use Rattle.reader.proofs.Mapped.{steps-unmapped, map-replicate, map-joined}
 
 -- ---- one item's rows
@@ -51,10 +45,6 @@ left-out p false old e = refl
 
 pub laid-part : {A : Type 0} (t : Table A) (h : Header) (b : Body) (old : List A) → sets old (t .width * (h .first - 1)) (joined (t .rows h b)) ≡ laidBy t (part (t .kind) h b) old
 laid-part t h b old = picked (pieceOf t h b) (sameKind (t .kind) (t .kind)) old (same-self (t .kind))
-
-pub laid-decl : {A : Type 0} (t : Table A) (k : Kind) (h : Header) (old : List A) → old ≡ laidBy t (decl k h) old
-unfolding lay
-laid-decl t k h old = refl
 
 -- rows that were stored at the section's first index
 pub rows-put : {A : Type 0} (t : Table A) (h : Header) (b : Body) (zone : Zone) (before k : ℕ) (old new : List A) → zone ≡ zoneOf (t .kind) h → before ≡ zone .first - 1 → k ≡ t .width * before
@@ -78,9 +68,6 @@ pub steps-any : (s : List ℕ) (at to d n : ℕ) (k : Kind) (v : Perhaps) (Q : B
     → Steps s at to (bodyOf (length s) k d n v (tokensFrom s at)) Q
 steps-any s at to d n k v Q c h = subst (λ y. Steps s at to y Q) (body-any (length s) d n k v (tokensFrom s at) c) h
 
-more-few : (z : ℕ) → z ≤ zones → more z ≤ zones
-more-few z l = split (ltb z zones) (λ e. let y = ltb-true z zones e in omega (arith, more-in z y)) (λ e. omega (arith, more-out z (ltb-false z zones e)))
-
 -- ---- a section, from behind its id
 module _ (s : List ℕ) (at z d : ℕ) (k : Kind) (top : Top)
     (h₀ : Steps s at (top .next) (headOf (length s) k (tokensFrom s at)) (λ x. top .zone ≡ zoneOf k (headerOf x))) where
@@ -93,48 +80,29 @@ module _ (s : List ℕ) (at z d : ℕ) (k : Kind) (top : Top)
       let y = then-is (λ x us. (top .zone ≡ zoneOf k (headerOf x)) × (tokensFrom s (top .next) ≡ us)) (w .head) t₁ (w .reads) (h₀ .says) in
       record { zone = y .0 ∙ ap (zoneOf k) (w .says); behind = y .1 }
 
-  as-declared : (h : Header) (t₁ : List Tok) → Heading (tokensFrom s at) h t₁ → h .zone ≡ 0 → Headed h t₁
-  as-declared h t₁ a e = headed h t₁ (head-is (length s) a k (lacks-decl (length s) _ (h .fifth) (or-left (isNode k) (eq-eqb (h .zone) 0 e))))
-
   as-filled : (h : Header) (t₁ : List Tok) → Heading (tokensFrom s at) h t₁ → FifthOf k (h .fifth) → Headed h t₁
   as-filled h t₁ a f = headed h t₁ (head-is (length s) a k (lacks-part (length s) (eqb (h .zone) 0) k (h .fifth) f))
 
-  ends : (c to : ℕ) (ts us : List Tok) → tokensFrom s c ≡ ts → Right ts us → Steps s c to (rightOf (length s) (tokensFrom s c)) (λ u. Unit) → tokensFrom s to ≡ us
-  ends c to ts us e r h = then-is (λ x vs. Unit × (tokensFrom s to ≡ vs)) _ us (ap (rightOf (length s)) e ∙ right-is (length s) r) (h .says) .1
-
-  module _ (to : ℕ) (old : List ℕ) (Q : Item → Type 0) (e : top .zone .zone ≡ 0) (r : Steps s (top .next) to (rightOf (length s) (tokensFrom s (top .next))) (λ u. Unit))
-      (l : z ≤ zones) (q : (h : Header) → Q (decl k h)) where
-    by-declared : (i : Item) (us : List Tok) → Kinded k (tokensFrom s at) i us → Fit d z i → Q i × Passed s z i us (record { next = to; zones = z }) old old
-    by-declared i us (declared {h = h} a b c) f =
-        let w = as-declared h _ a b in
-        (q h, record { behind = ends (top .next) to _ us (w .behind) c r; count = omega arith; listed = refl })
-    by-declared i us (filled {h = h} a b p c) f = let w = as-filled h _ a (f .fifth) in absurd (let y : top .zone .zone ≡ h .zone = ap (λ (u : Zone). u .zone) (w .zone) in omega arith)
-
-    pub passes-declared : Passes s at z d (Kinded k) (record { next = to; zones = z }) old old Q
-    passes-declared = record { says = by-declared; from = omega (arith, h₀ .from, r .from); few = l }
-
-  module _ (c to n m : ℕ) (old new : List ℕ) (B : Header → Body → Type 0) (Q : Item → Type 0) (e : top .zone .zone ≡ 0 → ⊥)
-      (count : n ≡ countFor (top .zone .first) (top .zone .last)) (list : new ≡ sets old (6 * z) (wordsOf (top .zone))) (on : top .next ≤ c)
+  module _ (c n : ℕ) (old new : List ℕ) (B : Header → Body → Type 0) (Q : Item → Type 0)
+      (count : n ≡ countFor (top .zone .first) (top .zone .last)) (list : new ≡ sets old (6 * z) (wordsOf (top .zone)))
       (body : (h : Header) → FifthOf k (h .fifth) → top .zone ≡ zoneOf k h → Steps s (top .next) c (bodyOf (length s) k d n (h .fifth) (tokensFrom s (top .next))) (B h))
-      (r : Steps s c to (rightOf (length s) (tokensFrom s c)) (λ u. Unit)) (more-is : m ≡ more z) (l : z ≤ zones)
       (q : (h : Header) (b : Body) → top .zone ≡ zoneOf k h → B h b → Q (part k h b)) where
-    by-filled : (i : Item) (us : List Tok) → Kinded k (tokensFrom s at) i us → Fit d z i → Q i × Passed s z i us (record { next = to; zones = m }) old new
-    by-filled i us (declared {h = h} a b p) f = let w = as-declared h _ a b in absurd (e (ap (λ (u : Zone). u .zone) (w .zone) ∙ b))
-    by-filled i us (filled {h = h} {b = b} {t₂ = t₂} a y p rt) f =
-        let w = as-filled h _ a (f .fifth) in
+    counted : (h : Header) → 1 ≤ h .first → h .first ≤ h .last → countFor (h .first) (h .last) ≡ countOf h
+    counted h p o = let x : h .last - h .first + 1 ≡ suc (h .last) - h .first = omega arith in sym (count-some (h .first) (h .last) p o) ∙ x
+
+    by-filled : (h : Header) (b : Body) → Regular k (tokensFrom s at) h b → Fitting d z k h b → Q (part k h b) × Recorded z k h old new
+    by-filled h b r f =
+        let w = as-filled h (r .inside) (r .heading) (f .fifth) in
         let g : top .zone .first ≡ h .first = ap (λ (u : Zone). u .first) (w .zone) in
         let j : top .zone .last ≡ h .last = ap (λ (u : Zone). u .last) (w .zone) in
         let x : n ≡ countOf h = count ∙ ap (λ y. countFor y (top .zone .last)) g ∙ ap (countFor (h .first)) j ∙ counted h (f .low) (f .order) in
-        let v = then-is (λ b us. B h b × (tokensFrom s c ≡ us)) b t₂
-        (ap (λ y. bodyOf (length s) k d y (h .fifth) (tokensFrom s (top .next))) x ∙ ap (bodyOf (length s) k d (countOf h) (h .fifth)) (w .behind) ∙ body-is (length s) d p (f .wide))
+        let v = then-is (λ b us. B h b × (tokensFrom s c ≡ us)) b (r .behind)
+        (ap (λ y. bodyOf (length s) k d y (h .fifth) (tokensFrom s (top .next))) x ∙ ap (bodyOf (length s) k d (countOf h) (h .fifth)) (w .behind) ∙ body-is (length s) d (r .body) (f .wide))
         (body h (f .fifth) (w .zone) .says) in
-        (q h b (w .zone) (v .0), record { behind = ends c to t₂ us (v .1) rt r; count = omega (arith, more-is, more-in z (f .few)); listed = list ∙ ap (λ y. sets old (6 * z) (wordsOf y)) (w .zone) })
-      where
-        counted : (h : Header) → 1 ≤ h .first → h .first ≤ h .last → countFor (h .first) (h .last) ≡ countOf h
-        counted h p o = let x : h .last - h .first + 1 ≡ suc (h .last) - h .first = omega arith in sym (count-some (h .first) (h .last) p o) ∙ x
+        (q h b (w .zone) (v .0), list ∙ ap (λ y. sets old (6 * z) (wordsOf y)) (w .zone))
 
-    pub passes-filled : Passes s at z d (Kinded k) (record { next = to; zones = m }) old new Q
-    passes-filled = record { says = by-filled; from = omega (arith, h₀ .from, r .from, on); few = subst (λ y. y ≤ zones) (sym more-is) (more-few z l) }
+    pub passes-filled : Passes s at z d k old new Q
+    passes-filled = record { says = by-filled }
 
 -- ---- bodies
 pub nodes-body : (s : List ℕ) (at to d n k : ℕ) (v : Perhaps) (h : Header) (old new : Both)
@@ -197,7 +165,7 @@ module _ (s : List ℕ) (at to n k : ℕ) (zone : Zone) (old new : List ℕ) whe
   pub cells-mixed : zone .element ≡ 0 → Steps s at to (enclosedOf (length s) (rowRead (length s) Form.Element (zone .ztype)) n (tokensFrom s at)) (λ xs. new ≡ sets old k (joined xs))
       → Bodied s at to cellTable n zone k old new
   unfolding bodyOf
-  cells-mixed e g = record { says = λ h f w. by h (h .fifth) refl f w; from = g .from }
+  cells-mixed e g = record { says = λ h f w. by h (h .fifth) refl f w }
     where
       by : (h : Header) (v : Perhaps) → h .fifth ≡ v → FifthOf cell v → zone ≡ zoneOf cell h → Steps s at to (bodyOf (length s) cell 0 n v (tokensFrom s at)) (CellsOf h)
       by h absent q f w = absurd f
@@ -210,7 +178,7 @@ module _ (s : List ℕ) (at to n k : ℕ) (zone : Zone) (old new : List ℕ) whe
   -- the same for all
   pub cells-same : (zone .element ≡ 0 → ⊥) → new ≡ sets old k (joined (replicate n (zone .element ∷ zone .ztype ∷ []))) → Bodied s at at cellTable n zone k old new
   unfolding bodyOf
-  cells-same e g = record { says = λ h f w. by h (h .fifth) refl f w; from = omega arith }
+  cells-same e g = record { says = λ h f w. by h (h .fifth) refl f w }
     where
       by : (h : Header) (v : Perhaps) → h .fifth ≡ v → FifthOf cell v → zone ≡ zoneOf cell h → Steps s at at (bodyOf (length s) cell 0 n v (tokensFrom s at)) (CellsOf h)
       by h absent q f w = absurd f
@@ -233,7 +201,7 @@ module _ (s : List ℕ) (at to n k : ℕ) (zone : Zone) (old new : List ℕ) whe
       → Steps s at to (enclosedOf (length s) (rowRead (length s) form (zone .ztype)) n (tokensFrom s at)) (λ xs. new ≡ sets old k (joined xs))
       → Bodied s at to faceTable n zone k old new
   unfolding bodyOf
-  faces-body form z g = record { says = λ h f w. by h (h .fifth) refl f w; from = g .from }
+  faces-body form z g = record { says = λ h f w. by h (h .fifth) refl f w }
     where
       taken : (e : ℕ) → zone .element ≡ e → Steps s at to (enclosedOf (length s) (rowRead (length s) (faceForm e) (zone .ztype)) n (tokensFrom s at)) (λ xs. new ≡ sets old k (joined xs))
       taken e q = subst (λ y. Steps s at to (enclosedOf (length s) (rowRead (length s) y (zone .ztype)) n (tokensFrom s at)) (λ xs. new ≡ sets old k (joined xs))) (z ∙ ap faceForm q) g

@@ -61,7 +61,9 @@ pub fn read_flat(
         cells.len(),
         room,
     );
-    let reply = survey::survey(s, limits);
+    let located = survey::locate(s, limits);
+    let reply = located.reply;
+    let at = located.places;
     let mut flat: [u32; 384] = [0; 384];
     match reply {
         Reply::Refused {
@@ -81,11 +83,11 @@ pub fn read_flat(
             zones,
         } => {
             let d = coordinates_in(dim);
-            fill_tables(s, d, mantissas, exponents, faces, cells, &mut flat);
-            let count = zones as usize;
+            let n = zones as usize;
+            fill_tables(s, &at, n, d, mantissas, exponents, faces, cells, &mut flat);
             Found {
                 reply,
-                zones: count,
+                zones: n,
                 flat,
             }
         }

@@ -10,12 +10,11 @@ ghost use Rattle.layout.specs.Rows.{joined, faceRow};
 ghost use Rattle.layout.specs.Reading.{rowsOf, enclosedOf};
 ghost use Rattle.layout.specs.Sections.{hexOf, elementOf, facingOf, mixedOf};
 ghost use Rattle.reader.specs.Filling.{Steps, rowRead, Placed, widthOf};
+use super::words::count_at;
 use super::words::hex_at;
 use super::words::past_left;
 use super::words::past_right;
-use super::words::value_at;
 use mesh::store;
-use numbers::Sort;
 
 // What a row is: a face of n nodes, a face that says how many it has, a cell that says its element.
 pub enum Form {
@@ -86,7 +85,7 @@ fn put_mixed(s: &[u8], at: usize, ztype: u32, rows: &mut [u32], k: usize) -> usi
     requires { ⌜ k ≤ 2 ^ 39 ⌝ }
     ensures { λ r. ⌜ Steps (now (s .entry)) at r (mixedOf (length (now (s .entry))) (tokensFrom (now (s .entry)) at)) (λ f. now (rows .exit) ≡ sets (now (rows .entry)) k (faceRow places ztype f)) ⌝ }
 {
-    let v = value_at(s, at, Sort::Hexadecimal);
+    let v = count_at(s, at);
     let n = v.value;
     let next = v.next;
     if 4 < n {
@@ -99,7 +98,7 @@ fn put_element(s: &[u8], at: usize, ztype: u32, rows: &mut [u32], k: usize) -> u
     requires { ⌜ k ≤ 2 ^ 39 ⌝ }
     ensures { λ r. ⌜ Steps (now (s .entry)) at r (elementOf (length (now (s .entry))) (tokensFrom (now (s .entry)) at)) (λ e. now (rows .exit) ≡ sets (now (rows .entry)) k (e ∷ ztype ∷ [])) ⌝ }
 {
-    let v = value_at(s, at, Sort::Hexadecimal);
+    let v = count_at(s, at);
     store(rows, k, v.value);
     let last = k + 1;
     store(rows, last, ztype);

@@ -1,4 +1,4 @@
-// One section of a file that is known to be good: its rows go to their table, its record to the list.
+// One regular section of a file that is known to be good: its rows go to their table, its record to the list.
 ghost use mathlib.Core.Path.{_≡_};
 ghost use Prim.Native.Nat.{_^_, _≤_};
 ghost use mathlib.Core.Bool.{_||_};
@@ -6,10 +6,8 @@ ghost use lib.Dec.{eqb, ltb};
 ghost use Rattle.mesh.specs.Rows.{nodeWords, places};
 ghost use Rattle.sizes.specs.Sizes.{zones};
 ghost use Rattle.layout.specs.Items.{node, cell, face};
-ghost use Rattle.layout.specs.Grammar.{Section};
 ghost use Rattle.layout.specs.Rows.{mantissaTable, exponentTable, faceTable, cellTable};
-ghost use Rattle.survey.specs.Noting.{more};
-ghost use Rattle.reader.specs.Passing.{faceForm, Bodied, Kinded, Passes, PassesAny, laidBy};
+ghost use Rattle.reader.specs.Passing.{faceForm, Bodied, Passes, PassesAny, PassesAt, laidBy};
 use super::nodes::put_nodes;
 use super::rows::Form;
 use super::rows::put_body;
@@ -17,27 +15,13 @@ use super::rows::put_same;
 use super::tops::put_record;
 use super::tops::rows_before;
 use super::tops::top_at;
-use super::words::past_right;
-use super::words::past_section;
 use super::words::value_at;
 use judging::count_of;
 use mesh::Zone;
 use numbers::Sort;
 use steps::Kind;
 
-// The place behind a section, and the records so far.
-pub struct Moved {
-    pub next: usize,
-    pub zones: usize,
-}
-
-// One record more; there are never more than the limit.
-fn more_of(z: usize) -> usize
-    ensures { λ r. ⌜ r ≡ more z ⌝ }
-{
-    if z < sizes::ZONES { z + 1 } else { z }
-}
-
+// From behind its id; z records come before its own.
 fn nodes_into(
     s: &[u8],
     at: usize,
@@ -46,25 +30,18 @@ fn nodes_into(
     mantissas: &mut [i64],
     exponents: &mut [i32],
     list: &mut [u32],
-) -> Moved
+)
     requires { ⌜ (d ≤ nodeWords) × (z ≤ zones) ⌝ }
-    ensures { λ r. ⌜ Passes (now (s .entry)) at z d (Kinded node) r (now (list .entry)) (now (list .exit)) (λ i. (now (mantissas .exit) ≡ laidBy mantissaTable i (now (mantissas .entry))) × (now (exponents .exit) ≡ laidBy exponentTable i (now (exponents .entry)))) ⌝ }
+    ensures { λ _. ⌜ Passes (now (s .entry)) at z d node (now (list .entry)) (now (list .exit)) (λ i. (now (mantissas .exit) ≡ laidBy mantissaTable i (now (mantissas .entry))) × (now (exponents .exit) ≡ laidBy exponentTable i (now (exponents .entry)))) ⌝ }
 {
     let top = top_at(s, at, Kind::Node);
     let zone = top.zone;
     let body = top.next;
-    if zone.zone == 0 {
-        let next = past_right(s, body);
-        return Moved { next, zones: z };
-    }
     put_record(list, z, zone);
     let before = rows_before(zone.first);
     let n = count_of(zone.first, zone.last);
     let k = 3 * before;
-    let c = put_nodes(s, body, d, n, mantissas, exponents, k);
-    let next = past_right(s, c);
-    let zones = more_of(z);
-    Moved { next, zones }
+    put_nodes(s, body, d, n, mantissas, exponents, k);
 }
 
 // The rows of a cell section: one element for each cell, or the same for all.
@@ -81,25 +58,18 @@ fn put_cells(s: &[u8], at: usize, zone: Zone, n: u32, cells: &mut [u32], k: usiz
     at
 }
 
-fn cells_into(s: &[u8], at: usize, z: usize, cells: &mut [u32], list: &mut [u32]) -> Moved
+fn cells_into(s: &[u8], at: usize, z: usize, cells: &mut [u32], list: &mut [u32])
     requires { ⌜ z ≤ zones ⌝ }
-    ensures { λ r. ⌜ PassesAny (now (s .entry)) at z (Kinded cell) r (now (list .entry)) (now (list .exit)) (λ i. now (cells .exit) ≡ laidBy cellTable i (now (cells .entry))) ⌝ }
+    ensures { λ _. ⌜ PassesAny (now (s .entry)) at z cell (now (list .entry)) (now (list .exit)) (λ i. now (cells .exit) ≡ laidBy cellTable i (now (cells .entry))) ⌝ }
 {
     let top = top_at(s, at, Kind::Cell);
     let zone = top.zone;
     let body = top.next;
-    if zone.zone == 0 {
-        let next = past_right(s, body);
-        return Moved { next, zones: z };
-    }
     put_record(list, z, zone);
     let before = rows_before(zone.first);
     let n = count_of(zone.first, zone.last);
     let k = 2 * before;
-    let c = put_cells(s, body, zone, n, cells, k);
-    let next = past_right(s, c);
-    let zones = more_of(z);
-    Moved { next, zones }
+    put_cells(s, body, zone, n, cells, k);
 }
 
 // More nodes than a row has places stand in no good file.
@@ -129,28 +99,21 @@ fn put_faces(s: &[u8], at: usize, zone: Zone, n: u32, faces: &mut [u32], k: usiz
     put_body(s, at, form, ztype, n, faces, k)
 }
 
-fn faces_into(s: &[u8], at: usize, z: usize, faces: &mut [u32], list: &mut [u32]) -> Moved
+fn faces_into(s: &[u8], at: usize, z: usize, faces: &mut [u32], list: &mut [u32])
     requires { ⌜ z ≤ zones ⌝ }
-    ensures { λ r. ⌜ PassesAny (now (s .entry)) at z (Kinded face) r (now (list .entry)) (now (list .exit)) (λ i. now (faces .exit) ≡ laidBy faceTable i (now (faces .entry))) ⌝ }
+    ensures { λ _. ⌜ PassesAny (now (s .entry)) at z face (now (list .entry)) (now (list .exit)) (λ i. now (faces .exit) ≡ laidBy faceTable i (now (faces .entry))) ⌝ }
 {
     let top = top_at(s, at, Kind::Face);
     let zone = top.zone;
     let body = top.next;
-    if zone.zone == 0 {
-        let next = past_right(s, body);
-        return Moved { next, zones: z };
-    }
     put_record(list, z, zone);
     let before = rows_before(zone.first);
     let n = count_of(zone.first, zone.last);
     let k = 8 * before;
-    let c = put_faces(s, body, zone, n, faces, k);
-    let next = past_right(s, c);
-    let zones = more_of(z);
-    Moved { next, zones }
+    put_faces(s, body, zone, n, faces, k);
 }
 
-// A section from behind its `(`.
+// From behind its `(`.
 pub(crate) fn section_into(
     s: &[u8],
     at: usize,
@@ -161,22 +124,22 @@ pub(crate) fn section_into(
     faces: &mut [u32],
     cells: &mut [u32],
     list: &mut [u32],
-) -> Moved
+)
     requires { ⌜ (d ≤ nodeWords) × (z ≤ zones) ⌝ }
-    ensures { λ r. ⌜ Passes (now (s .entry)) at z d Section r (now (list .entry)) (now (list .exit)) (λ i. (now (mantissas .exit) ≡ laidBy mantissaTable i (now (mantissas .entry))) × (now (exponents .exit) ≡ laidBy exponentTable i (now (exponents .entry))) × (now (faces .exit) ≡ laidBy faceTable i (now (faces .entry))) × (now (cells .exit) ≡ laidBy cellTable i (now (cells .entry)))) ⌝ }
+    ensures { λ _. ⌜ PassesAt (now (s .entry)) at z d (now (list .entry)) (now (list .exit)) (λ i. (now (mantissas .exit) ≡ laidBy mantissaTable i (now (mantissas .entry))) × (now (exponents .exit) ≡ laidBy exponentTable i (now (exponents .entry))) × (now (faces .exit) ≡ laidBy faceTable i (now (faces .entry))) × (now (cells .exit) ≡ laidBy cellTable i (now (cells .entry)))) ⌝ }
 {
     let id = value_at(s, at, Sort::SectionId);
     let v = id.value;
     let behind = id.next;
     if v == 10 {
-        return nodes_into(s, behind, d, z, mantissas, exponents, list);
+        nodes_into(s, behind, d, z, mantissas, exponents, list);
+        return;
     }
     if v == 12 {
-        return cells_into(s, behind, z, cells, list);
+        cells_into(s, behind, z, cells, list);
+        return;
     }
     if v == 13 {
-        return faces_into(s, behind, z, faces, list);
+        faces_into(s, behind, z, faces, list);
     }
-    let next = past_section(s, behind);
-    Moved { next, zones: z }
 }

@@ -3,7 +3,7 @@ ghost use mathlib.Core.Path.{_≡_};
 ghost use lib.ListN.{length};
 ghost use Rattle.tokens.specs.Listed.{tokensFrom};
 ghost use Rattle.steps.specs.Views.{wholeFor};
-ghost use Rattle.layout.specs.Reading.{leftOf, rightOf, numberBy, pairWord, skip};
+ghost use Rattle.layout.specs.Reading.{leftOf, rightOf, numberBy, hexWord, pairWord};
 ghost use Rattle.layout.specs.Sections.{hexOf};
 ghost use Rattle.reader.specs.Filling.{Steps};
 use numbers::Sort;
@@ -11,6 +11,7 @@ use steps::Close;
 use steps::Num;
 use steps::Pair;
 use steps::Past;
+use steps::Quick;
 
 // A number and the place behind it.
 pub struct Value {
@@ -46,6 +47,17 @@ pub(crate) fn hex_at(s: &[u8], at: usize) -> Value
     let value = k.value;
     let next = k.next;
     Value { value, next }
+}
+
+// As `value_at`, and most numbers that lead a row are one digit.
+pub(crate) fn count_at(s: &[u8], at: usize) -> Value
+    ensures { λ r. ⌜ Steps (now (s .entry)) at (r .next) (hexWord (length (now (s .entry))) (tokensFrom (now (s .entry)) at)) (λ v. r .value ≡ v .value) ⌝ }
+{
+    let q = steps::digit_hex(s, at);
+    match q {
+        Quick::Is { value, next } => Value { value, next },
+        Quick::Not => value_at(s, at, Sort::Hexadecimal),
+    }
 }
 
 pub(crate) fn coordinate_at(s: &[u8], at: usize) -> Coordinate
@@ -87,16 +99,5 @@ pub(crate) fn past_right(s: &[u8], at: usize) -> usize
     match c {
         Close::No(_) => at,
         Close::At { start: _, next } => next,
-    }
-}
-
-// Behind the `)` of a section that is stepped over.
-pub(crate) fn past_section(s: &[u8], at: usize) -> usize
-    ensures { λ r. ⌜ Steps (now (s .entry)) at r (skip (length (now (s .entry))) 0 (tokensFrom (now (s .entry)) at)) (λ u. Unit) ⌝ }
-{
-    let p = steps::skip_from(s, at);
-    match p {
-        Past::No(_) => at,
-        Past::To(next) => next,
     }
 }

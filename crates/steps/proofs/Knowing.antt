@@ -1,29 +1,26 @@
 -- Where a hexadecimal word stands, the digits there are all of it. Assumes nothing.
-use Prim.Native.Nat.{ℕ, suc, _+_, _-_, _≤_, _<_, min}
+use Prim.Native.Nat.{ℕ, _+_, _-_, _≤_, _<_}
 use native.Mathlib.Omega.{arith}
-use mathlib.Core.Path.{_≡_, refl, sym, ap, subst, _∙_}
-use mathlib.Core.List.{List, [], _∷_, _++_}
-use mathlib.Core.Bool.{true, false}
-use borrow.Author.Tests.{ltb-true, ltb-false, eqb-true, eqb-false}
-use lib.Dec.{ltb, eqb}
+use mathlib.Core.Path.{_≡_, sym, ap, subst, _∙_}
+use mathlib.Core.List.{List, _++_}
+use borrow.Author.Tests.{ltb-true, ltb-false}
+use lib.Dec.{ltb}
 use lib.ListN.{length, take, drop, getD, drop-of-length-le, length-take, length-drop, take-append-drop}
 use lib.Seq.{take-take, drop-cons, length-take-le, getD-take, getD-drop}
-use Rattle.facts.proofs.Branch.{split, differ}
+use Rattle.facts.proofs.Branch.{split}
 use Rattle.tokens.specs.declared.Token.{Token}
 use Rattle.tokens.specs.declared.Step.{Step}
-use Rattle.tokens.specs.Tokens.{startOf, endsWord, tokenAt}
+use Rattle.tokens.specs.Tokens.{startOf, tokenAt}
 use Rattle.tokens.proofs.Ended.{word-token, ended-low}
 use Rattle.numbers.specs.declared.whole.Whole.{Whole}
 use Rattle.numbers.specs.declared.quick.Hexes.{Hexes}
-use Rattle.numbers.specs.Whole.{digitOf, digitsIn, hexadecimalOf}
+use Rattle.numbers.specs.Whole.{digitOf, hexadecimalOf}
 use Rattle.numbers.specs.Hexes.{hexesOf}
 use Rattle.numbers.proofs.Digits.{Begins, NoDigit}
 use Rattle.numbers.proofs.Pieces.{wholeOf-exactly}
 use Rattle.numbers.proofs.AtOnce.{digit-high, hexes-all}
-use Rattle.steps.specs.declared.quick.Known.{Known}
-use Rattle.steps.specs.Quick.{window, knownBy, knownOf}
+use Rattle.steps.specs.Quick.{hexesFrom, knownBy, knownOf}
 use Rattle.steps.proofs.Taken.{word-moves}
-use Rattle.steps.proofs.Quickly.{quick-fits}
 
 low-byte : (b : ℕ) → b < 42 → NoDigit 16 b
 low-byte b h = split (ltb (digitOf b) 16) (λ p. absurd (omega (arith, h, digit-high b (ltb-true (digitOf b) 16 p)))) (λ p. p)
@@ -75,17 +72,6 @@ module _ (s : List ℕ) (at : ℕ) (t : Step) (e : t ≡ tokenAt s at) (q : t .t
       let n : t .start + size ≡ t .next .at = omega (arith, m .more) in
       ap (λ i. knownBy i (hexesOf (take 8 (drop i s)))) (sym (w .starts)) ∙ ap (knownBy (t .start)) found ∙ ap (λ k. record { value = v; next = k }) n
 
-module _ (s : List ℕ) (at i : ℕ) (b : i ≡ startOf s at) where
-  pub known-past : length s ≤ i → record { value = 0; next = i } ≡ knownOf s at
-  unfolding knownOf hexesOf digitsIn
-  known-past h =
-      let none : drop (startOf s at) s ≡ [] = drop-of-length-le s (subst (λ k. length s ≤ k) b h) in
-      let z : i ≡ startOf s at + 0 = omega (arith, b) in
-      ap (λ k. record { value = 0; next = k }) z ∙ sym (ap (λ l. knownBy (startOf s at) (hexesOf (take 8 l))) none)
-
-  pub known-is : (h : Hexes) → h ≡ hexesOf (window s at 8) → record { value = h .value; next = i + h .count } ≡ knownOf s at
-  unfolding knownOf
-  known-is h f = λ j. knownBy (b j) (f j)
-
-  pub known-fits : (h : Hexes) → h ≡ hexesOf (window s at 8) → i ≤ length s → i + h .count ≤ length s
-  known-fits h f l = split (eqb (h .count) 0) (λ p. omega (arith, l, eqb-true (h .count) 0 p)) (λ p. quick-fits s at i b h f (eqb-false (h .count) 0 p))
+pub known-from : (s : List ℕ) (at i : ℕ) (h : Hexes) → i ≡ startOf s at → h ≡ hexesFrom s i → knownBy i h ≡ knownOf s at
+unfolding hexesFrom knownOf
+known-from s at i h b f = ap (knownBy i) f ∙ ap (λ k. knownBy k (hexesFrom s k)) b

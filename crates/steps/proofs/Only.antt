@@ -1,6 +1,8 @@
 -- No second answer meets the contract. Assumes nothing.
 use mathlib.Core.Path.{sym, _∙_}
 use Rattle.facts.specs.Only.{Only}
+use Rattle.steps.proofs.pairs.quick_pair.Reads as quick-pair
+use Rattle.steps.proofs.quick.digit_hex.Reads as digit-hex
 use Rattle.steps.proofs.quick.known_hex.Reads as known-hex
 use Rattle.steps.proofs.quick.quick_hex.Reads as quick-hex
 
@@ -9,3 +11,9 @@ quick-hex-only κ a r r′ x x′ p q = p ∙ sym q
 
 pub known-hex-only : Only known-hex.Post
 known-hex-only κ a r r′ x x′ p q = p ∙ sym q
+
+pub quick-pair-only : Only quick-pair.Post
+quick-pair-only κ a r r′ x x′ p q = p ∙ sym q
+
+pub digit-hex-only : Only digit-hex.Post
+digit-hex-only κ a r r′ x x′ p q = p ∙ sym q

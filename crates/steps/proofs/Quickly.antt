@@ -7,7 +7,7 @@ use mathlib.Core.Bool.{Bool, true, false, _&&_, _||_}
 use borrow.Author.Tests.{lt-ltb, ltb-true, eqb-true}
 use lib.Dec.{ltb, eqb}
 use lib.IntN.{ℤ}
-use lib.ListN.{length, take, drop, drop-of-length-le}
+use lib.ListN.{length, take, drop}
 use Rattle.facts.proofs.Branch.{split, differ}
 use Rattle.facts.proofs.Decides.{and-split, or-split, either-of}
 use Rattle.tokens.specs.declared.Token.{Token}
@@ -19,7 +19,7 @@ use Rattle.numbers.specs.declared.decimal.Decimal.{Decimal}
 use Rattle.numbers.specs.declared.decimal.Lead.{Lead}
 use Rattle.numbers.specs.Coordinate.{coordinateOf}
 use Rattle.numbers.specs.Lead.{isPart, leadOf}
-use Rattle.numbers.specs.Whole.{within, digitOf, digitsIn}
+use Rattle.numbers.specs.Whole.{within, digitOf}
 use Rattle.numbers.specs.Hexes.{hexesOf}
 use Rattle.numbers.proofs.Digits.{within-is}
 use Rattle.numbers.proofs.Led.{lead-is, lead-next, lead-parts}
@@ -29,59 +29,42 @@ use Rattle.steps.specs.declared.step.Num.{Num}
 use Rattle.steps.specs.declared.step.Pair.{Pair}
 use Rattle.steps.specs.declared.quick.Quick.{Quick}
 use Rattle.steps.specs.Views.{NumAt, PairAt, wholeFor}
-use Rattle.steps.specs.Quick.{window, quickBy, quickOf}
+use Rattle.steps.specs.Quick.{hexesFrom, window, quickBy, quickOf}
 use Rattle.steps.proofs.Taken.{number-is, pair-is}
 use Rattle.steps.proofs.Windows.{window-is, inside, word-bytes, word-here}
 
-module _ (s : List ℕ) (at : ℕ) where
-  pub quick-past : (i : ℕ) → i ≡ startOf s at → length s ≤ i → Quick.Not ≡ quickOf s at
-  unfolding quickOf hexesOf digitsIn
-  quick-past i b h = rw (drop-of-length-le s (subst (λ k. length s ≤ k) b h))
+module _ (s : List ℕ) (i : ℕ) (h : Hexes) where
+  abbrev pick : Bool → ℕ → Quick
+  pick t k = elim t [ true ↦ Quick.Is (h .value) (i + k) | false ↦ Quick.Not ]
 
-  -- the digits of the part of the file up to e
-  pub hexes-here : (i e : ℕ) (h : Hexes) → i ≡ startOf s at → i ≤ length s → e ≡ i + min 8 (length s - i) → h ≡ hexesOf (take (e - i) (drop i s)) → h ≡ hexesOf (window s at 8)
-  hexes-here i e h b l w f =
-      f ∙ ap (λ k. hexesOf (take (k - i) (drop i s))) w ∙ ap (λ k. hexesOf (take (k + min 8 (length s - k) - k) (drop k s))) b
-      ∙ ap hexesOf (window-is s at 8 (subst (λ k. k ≤ length s) b l))
+  pub quick-none : h .count ≡ 0 → Quick.Not ≡ quickBy s i h
+  quick-none z = sym (ap (λ k. pick (ltb 0 k && endsWord s (i + k)) k) z)
 
-  module _ (i : ℕ) (b : i ≡ startOf s at) (h : Hexes) (f : h ≡ hexesOf (window s at 8)) where
-    by-found : quickBy s i h ≡ quickOf s at
-    unfolding quickOf
-    by-found = λ j. quickBy s (b j) (f j)
+  module _ (n : h .count ≡ 0 → ⊥) where
+    picked : (t : Bool) → endsWord s (i + h .count) ≡ t → pick t (h .count) ≡ quickBy s i h
+    picked t e = sym (λ j. pick (lt-ltb 0 (h .count) (omega (arith, n)) j && e j) (h .count))
 
-    abbrev pick : Bool → ℕ → Quick
-    pick t k = elim t [ true ↦ Quick.Is (h .value) (i + k) | false ↦ Quick.Not ]
+    pub quick-on : endsWord s (i + h .count) ≡ false → Quick.Not ≡ quickBy s i h
+    quick-on e = picked false e
 
-    pub quick-none : h .count ≡ 0 → Quick.Not ≡ quickOf s at
-    quick-none z = sym (ap (λ k. pick (ltb 0 k && endsWord s (i + k)) k) z) ∙ by-found
+    pub quick-is : endsWord s (i + h .count) ≡ true → Quick.Is (h .value) (i + h .count) ≡ quickBy s i h
+    quick-is e = picked true e
 
-    picked : (t : Bool) → endsWord s (i + h .count) ≡ t → (h .count ≡ 0 → ⊥) → pick t (h .count) ≡ quickOf s at
-    picked t e n = sym (λ j. pick (lt-ltb 0 (h .count) (omega (arith, n)) j && e j) (h .count)) ∙ by-found
-
-    pub quick-on : (h .count ≡ 0 → ⊥) → endsWord s (i + h .count) ≡ false → Quick.Not ≡ quickOf s at
-    quick-on n e = picked false e n
-
-    pub quick-is : (h .count ≡ 0 → ⊥) → endsWord s (i + h .count) ≡ true → Quick.Is (h .value) (i + h .count) ≡ quickOf s at
-    quick-is n e = picked true e n
-
-    -- the place behind the digits is in the file
-    pub quick-fits : (h .count ≡ 0 → ⊥) → i + h .count ≤ length s
-    quick-fits n =
-        let w = window s at 8 in
-        let c : h .count ≡ hexesOf w .count = ap (λ (y : Hexes). y .count) f in
-        let some : 1 ≤ hexesOf w .count = omega (arith, n, c) in
-        omega (arith, b, c, inside s at 8 (hexesOf w .count) some (hexes-worded w some .within))
+  -- the digits at the next token's start
+  pub quick-from : (at : ℕ) → i ≡ startOf s at → h ≡ hexesFrom s i → quickBy s i h ≡ quickOf s at
+  unfolding hexesFrom quickOf
+  quick-from at b f = ap (quickBy s i) f ∙ ap (λ k. quickBy s k (hexesFrom s k)) b
 
 -- ---- what is found is the number there
-abbrev isQuick : Quick → Bool
+abbrev pub isQuick : Quick → Bool
 isQuick (Quick.Is v n) = true
 isQuick Quick.Not = false
 
-abbrev valueOf : Quick → ℕ
+abbrev pub valueOf : Quick → ℕ
 valueOf (Quick.Is v n) = v
 valueOf Quick.Not = 0
 
-abbrev nextOf : Quick → ℕ
+abbrev pub nextOf : Quick → ℕ
 nextOf (Quick.Is v n) = n
 nextOf Quick.Not = 0
 

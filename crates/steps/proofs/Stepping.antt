@@ -74,10 +74,6 @@ module _ (s : List ℕ) (at c d : ℕ) (h : Left s at c d) (t : Step) (e : t ≡
       closes zero m = absurd (m refl)
       closes (suc f) m = let z : suc f - 1 ≡ f = omega arith in rw z
 
-  pub skip-word : t .token ≡ Token.Word → Left s at (t .next .at) d
-  unfolding skip
-  skip-word q = went Token.Word tt q d (h .deep) refl
-
   pub skip-text : t .token ≡ Token.Text → Left s at (t .next .at) d
   unfolding skip
   skip-text q = went Token.Text tt q d (h .deep) refl

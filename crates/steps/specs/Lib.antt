@@ -1,3 +1,4 @@
 pub mod Views
 pub mod Heads
 pub mod Quick
+pub mod Pairs

@@ -1,14 +1,23 @@
 -- The usual number word: hexadecimal digits, behind which the word ends. Assumes nothing.
-use Prim.Native.Nat.{ℕ, _+_}
+use Prim.Native.Nat.{ℕ, _+_, _-_}
 use mathlib.Core.List.{List}
 use mathlib.Core.Bool.{true, false, _&&_}
-use lib.Dec.{ltb}
-use lib.ListN.{take, drop}
-use Rattle.tokens.specs.Tokens.{startOf, endsWord}
+use lib.Dec.{ltb, leb}
+use lib.ListN.{length, take, drop, getD}
+use Rattle.tokens.specs.Tokens.{isBlank, startOf, endsWord}
 use Rattle.numbers.specs.declared.quick.Hexes.{Hexes}
+use Rattle.numbers.specs.Whole.{within}
 use Rattle.numbers.specs.Hexes.{hexesOf}
 use Rattle.steps.specs.declared.quick.Quick.{Quick}
 use Rattle.steps.specs.declared.quick.Known.{Known}
+
+-- the digits from a place on, at most 8
+unfoldable pub hexesFrom : List ℕ → ℕ → Hexes
+hexesFrom s i = hexesOf (take 8 (drop i s))
+
+-- the digits behind one blank, where 8 bytes stand there; else none
+unfoldable pub nearHexes : List ℕ → ℕ → Hexes
+nearHexes s at = elim (leb (at + 9) (length s) && isBlank (getD s at 0)) [ true ↦ hexesFrom s (at + 1) | false ↦ record { value = 0; count = 0 } ]
 
 -- at most n bytes from the next token's start on
 abbrev pub window : List ℕ → ℕ → ℕ → List ℕ
@@ -19,6 +28,14 @@ quickBy s i h = elim (ltb 0 (h .count) && endsWord s (i + h .count)) [ true ↦ 
 
 unfoldable pub quickOf : List ℕ → ℕ → Quick
 quickOf s at = quickBy s (startOf s at) (hexesOf (window s at 8))
+
+-- the decimal digit that a byte is, and the place behind it
+abbrev pub figureOf : ℕ → ℕ → Quick
+figureOf b n = elim (within 48 57 b) [ true ↦ Quick.Is (b - 48) n | false ↦ Quick.Not ]
+
+-- a word of one decimal digit behind one blank, and not the file's last byte
+unfoldable pub digitHex : List ℕ → ℕ → Quick
+digitHex s at = elim (leb (at + 3) (length s) && (isBlank (getD s at 0) && endsWord s (at + 2))) [ true ↦ figureOf (getD s (at + 1) 0) (at + 2) | false ↦ Quick.Not ]
 
 -- the digits there, whatever stands behind them
 abbrev pub knownBy : ℕ → Hexes → Known

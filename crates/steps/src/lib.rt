@@ -1,5 +1,6 @@
 // One thing expected at a place of a file, and headers: the layout's steps. Each answers a refusal where the token there is another one.
 mod head;
+mod pairs;
 mod quick;
 mod skip;
 mod step;
@@ -10,8 +11,11 @@ pub use head::Header;
 pub use head::Kind;
 pub use head::Read;
 pub use head::head_at;
+pub use pairs::Went;
+pub use pairs::quick_pair;
 pub use quick::Known;
 pub use quick::Quick;
+pub use quick::digit_hex;
 pub use quick::known_hex;
 pub use quick::pair_at;
 pub use quick::quick_hex;

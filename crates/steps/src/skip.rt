@@ -8,7 +8,10 @@ use super::step::Bad;
 use super::step::Past;
 use layout::Refusal;
 use tokens::Cursor;
-use tokens::Token;
+
+const LEFT: u8 = 40;
+
+const RIGHT: u8 = 41;
 
 fn no(why: Refusal, offset: usize) -> Past
     ensures { λ r. ⌜ r ≡ Past.No (record { why = why; offset = offset }) ⌝ }
@@ -16,40 +19,41 @@ fn no(why: Refusal, offset: usize) -> Past
     Past::No(Bad { why, offset })
 }
 
-// To behind the `)` that closes the section; `at` is behind its id. d parentheses are open inside it.
+// To behind the `)` that closes the section; `at` is behind its id. d parentheses are open inside it. What stands at a mark and is no parenthesis is a quote.
 pub fn skip_from(s: &[u8], at: usize) -> Past
     ensures { λ r. ⌜ PastAt (now (s .entry)) at r (skip (length (now (s .entry))) 0 (tokensFrom (now (s .entry)) at)) ⌝ }
 {
+    let size = s.len();
     let mut c = at;
     let mut d: u32 = 0;
     loop {
         let m = (Cursor { at: c }).mark(s);
-        let t = (Cursor { at: m }).token(s);
-        let k = t.token;
-        let start = t.start;
-        c = t.next.at;
-        match k {
-            Token::Left => {
-                let deeper = d + 1;
-                if sizes::DEPTH <= deeper {
-                    return no(Refusal::Depth, start);
-                }
-                d = deeper;
-            }
-            Token::Right => {
-                if d == 0 {
-                    return Past::To(c);
-                }
-                d -= 1;
-            }
-            Token::Word => {}
-            Token::Text => {}
-            Token::End => {
-                return no(Refusal::Grammar, start);
-            }
-            Token::Unclosed => {
-                return no(Refusal::Grammar, start);
-            }
+        if size <= m {
+            return no(Refusal::Grammar, size);
         }
+        let b = s[m];
+        let inside = m + 1;
+        if b == LEFT {
+            let deeper = d + 1;
+            if sizes::DEPTH <= deeper {
+                return no(Refusal::Depth, m);
+            }
+            d = deeper;
+            c = inside;
+            continue;
+        }
+        if b == RIGHT {
+            if d == 0 {
+                return Past::To(inside);
+            }
+            d -= 1;
+            c = inside;
+            continue;
+        }
+        let end = (Cursor { at: inside }).quote(s);
+        if size <= end {
+            return no(Refusal::Grammar, m);
+        }
+        c = end + 1;
     }
 }

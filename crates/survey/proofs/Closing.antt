@@ -5,8 +5,9 @@ use mathlib.Core.List.{List, []}
 use mathlib.Core.Bool.{Bool, true, false, _&&_, not}
 use borrow.Author.Tests.{le-leb, lt-leb}
 use lib.Dec.{eqb}
-use lib.ListN.{length}
-use Rattle.sizes.specs.Sizes.{fileBytes}
+use lib.ListN.{length, replicate}
+use lib.Seq.{sets}
+use Rattle.sizes.specs.Sizes.{fileBytes, zones}
 use Rattle.tokens.specs.Listed.{tokensFrom}
 use Rattle.layout.specs.declared.Refusal.{Refusal}
 use Rattle.layout.specs.declared.Reply.{Reply}
@@ -17,6 +18,7 @@ use Rattle.judging.specs.declared.judge.State.{State}
 use Rattle.judging.specs.Kept.{keptOf}
 use Rattle.survey.specs.Sections.{stateFor}
 use Rattle.survey.specs.Files.{verdict, closing}
+use Rattle.survey.specs.Sites.{tokenSites, sitesOf, placesOf}
 
 module _ (ids firsts lasts : List ℕ) (x : State) (k size : ℕ) where
   closing-is : (a b c : Bool) → closing a b c x k size ≡ verdict (ending a b c (accepted (stateFor ids firsts lasts x) []) k size)
@@ -56,3 +58,14 @@ module _ (s : List ℕ) (room : Keeps.Room) where
   pub not-too-long : length s ≤ fileBytes → {r : Reply} → r ≡ verdict (tokensAnswer (length s) room (tokensFrom s 0)) → r ≡ verdict (answerOf room s)
   unfolding answerOf
   not-too-long l e = e ∙ ap picked (sym (le-leb (length s) fileBytes l))
+
+  abbrev pickedSites : Bool → List ℕ
+  pickedSites b = sets (replicate zones 0) 0 (elim b [ true ↦ tokenSites (length s) room (tokensFrom s 0) | false ↦ [] ])
+
+  pub no-places : fileBytes < length s → replicate zones 0 ≡ placesOf room s
+  unfolding sitesOf
+  no-places l = ap pickedSites (sym (lt-leb (length s) fileBytes l))
+
+  pub its-places : length s ≤ fileBytes → {p : List ℕ} → p ≡ sets (replicate zones 0) 0 (tokenSites (length s) room (tokensFrom s 0)) → p ≡ placesOf room s
+  unfolding sitesOf
+  its-places l e = e ∙ ap pickedSites (sym (le-leb (length s) fileBytes l))

@@ -2,6 +2,8 @@ pub mod Gates
 pub mod Sections
 pub mod Ids
 pub mod Noting
+pub mod Based
+pub mod Sites
 pub mod Closing
 pub mod Filing
 pub mod Accepted

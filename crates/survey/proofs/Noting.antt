@@ -20,7 +20,7 @@ use Rattle.survey.specs.declared.section.Met.{Met}
 use Rattle.steps.specs.declared.head.Fifth.{Fifth}
 use Rattle.steps.specs.Heads.{fifthFor}
 use Rattle.judging.specs.Judging.{idFor, dimWordFor}
-use Rattle.survey.specs.Noting.{more, withSeen, withDim, dimWith, noteState, noteId, noteFirst, noteLast}
+use Rattle.survey.specs.Noting.{more, withSeen, withDim, dimWith, noteState, noteId, noteFirst, noteLast, notePlace}
 use Rattle.survey.specs.Sections.{Outline, dim, decl, part, other, outlineOf, metFor, stateFor}
 use Rattle.judging.specs.declared.kept.Entry.{Entry}
 use Rattle.judging.specs.Kept.{consed, entryAt, keptOf}
@@ -125,3 +125,6 @@ module _ (k : Kind) (h : Head) (z : ℕ) (l : List ℕ) {m : Met} {w : List ℕ}
 
   pub last-kept : w ≡ set l z (h .last .value) → w ≡ noteLast m z l
   last-kept r = r ∙ ap (λ y. noteLast y z l) (sym e)
+
+  pub place-kept : (p : ℕ) → w ≡ set l z p → w ≡ notePlace m z p l
+  place-kept p r = r ∙ ap (λ y. notePlace y z p l) (sym e)

@@ -1,3 +1,4 @@
 pub mod Sections
 pub mod Noting
 pub mod Files
+pub mod Sites

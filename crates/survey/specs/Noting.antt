@@ -53,3 +53,10 @@ noteLast (Met.Dim n) z l = l
 noteLast (Met.Decl k h) z l = l
 noteLast (Met.Part k h) z l = set l z (h .last .value)
 noteLast Met.Other z l = l
+
+-- and the list of the places, the section's being p
+abbrev pub notePlace : Met → ℕ → ℕ → List ℕ → List ℕ
+notePlace (Met.Dim n) z p l = l
+notePlace (Met.Decl k h) z p l = l
+notePlace (Met.Part k h) z p l = set l z p
+notePlace Met.Other z p l = l

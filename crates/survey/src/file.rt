@@ -2,6 +2,7 @@
 ghost use mathlib.Core.Path.{_≡_};
 ghost use mathlib.Core.Bool.{_&&_};
 ghost use lib.ListN.{length};
+ghost use lib.Seq.{sets};
 ghost use Prim.Native.Nat.{_≤_};
 ghost use Rattle.sizes.specs.Sizes.{fileBytes, zones};
 ghost use Rattle.tokens.specs.Listed.{tokensFrom};
@@ -9,6 +10,7 @@ ghost use Rattle.layout.specs.Read.{endOf, tokensAnswer, answerOf};
 ghost use Rattle.layout.specs.Replies.{shown};
 ghost use Rattle.survey.specs.Sections.{stateFor, roomAll};
 ghost use Rattle.survey.specs.Files.{verdict, closing, lastOf};
+ghost use Rattle.survey.specs.Sites.{tokenSites, placesOf};
 use super::note::keep;
 use super::note::noted;
 use super::section::Sect;
@@ -21,6 +23,12 @@ use layout::Refusal;
 use layout::Reply;
 use tokens::Cursor;
 use tokens::Token;
+
+// What reading a file answers, and the place behind the `(` of each regular section that was met, in order.
+pub struct Located {
+    pub reply: Reply,
+    pub places: [u32; 64],
+}
 
 fn all_three(a: bool, b: bool, c: bool) -> bool
     ensures { λ r. ⌜ r ≡ (a && (b && c)) ⌝ }
@@ -102,10 +110,17 @@ fn last_of(
     }
 }
 
-// The sections of a file that is not too long, from its first byte. The three slices hold what was met of the regular ones.
-fn file_from(s: &[u8], room: Room, ids: &mut [u32], firsts: &mut [u32], lasts: &mut [u32]) -> Reply
+// The sections of a file that is not too long, from its first byte. The four slices hold what was met of the regular ones.
+fn file_from(
+    s: &[u8],
+    room: Room,
+    ids: &mut [u32],
+    firsts: &mut [u32],
+    lasts: &mut [u32],
+    places: &mut [u32],
+) -> Reply
     requires { ⌜ (length (now s) ≤ fileBytes) × ((length (now ids) ≡ zones) × ((length (now firsts) ≡ zones) × (length (now lasts) ≡ zones))) ⌝ }
-    ensures { λ r. ⌜ r ≡ verdict (tokensAnswer (length (now (s .entry))) (roomAll room) (tokensFrom (now (s .entry)) 0)) ⌝ }
+    ensures { λ r. ⌜ (r ≡ verdict (tokensAnswer (length (now (s .entry))) (roomAll room) (tokensFrom (now (s .entry)) 0))) × (now (places .exit) ≡ sets (now (places .entry)) 0 (tokenSites (length (now (s .entry))) (roomAll room) (tokensFrom (now (s .entry)) 0))) ⌝ }
 {
     let none = Seen {
         declared: false,
@@ -138,7 +153,8 @@ fn file_from(s: &[u8], room: Room, ids: &mut [u32], firsts: &mut [u32], lasts: &
             }
             Sect::Is { met, next: to } => {
                 let z = x.zones;
-                keep(ids, firsts, lasts, z, met);
+                let place = next as u32;
+                keep(ids, firsts, lasts, places, z, met, place);
                 x = noted(x, met);
                 c = to;
             }
@@ -146,15 +162,27 @@ fn file_from(s: &[u8], room: Room, ids: &mut [u32], firsts: &mut [u32], lasts: &
     }
 }
 
-// Judges a file: what reading it into tables with this room answers. No table is touched.
-pub fn survey(s: &[u8], room: Room) -> Reply
-    ensures { λ r. ⌜ shown r ≡ shown (verdict (answerOf (roomAll room) (now (s .entry)))) ⌝ }
+// Judges a file: what reading it into tables with this room answers, and where its regular sections stand. No table is touched.
+pub fn locate(s: &[u8], room: Room) -> Located
+    ensures { λ r. ⌜ (shown (r .reply) ≡ shown (verdict (answerOf (roomAll room) (now (s .entry))))) × (r .places ≡ placesOf (roomAll room) (now (s .entry))) ⌝ }
 {
+    let mut places: [u32; 64] = [0; 64];
     if sizes::FILE_BYTES < s.len() {
-        return refused(Refusal::TooLong, 0, 0);
+        let reply = refused(Refusal::TooLong, 0, 0);
+        return Located { reply, places };
     }
     let mut ids: [u32; 64] = [0; 64];
     let mut firsts: [u32; 64] = [0; 64];
     let mut lasts: [u32; 64] = [0; 64];
-    file_from(s, room, &mut ids, &mut firsts, &mut lasts)
+    let reply = file_from(s, room, &mut ids, &mut firsts, &mut lasts, &mut places);
+    Located { reply, places }
+}
+
+// The answer alone.
+pub fn survey(s: &[u8], room: Room) -> Reply
+    ensures { λ r. ⌜ shown r ≡ shown (verdict (answerOf (roomAll room) (now (s .entry)))) ⌝ }
+{
+    let found = locate(s, room);
+    let reply = found.reply;
+    reply
 }

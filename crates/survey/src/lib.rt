@@ -3,4 +3,6 @@ mod file;
 mod note;
 mod section;
 
+pub use file::Located;
+pub use file::locate;
 pub use file::survey;

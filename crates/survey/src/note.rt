@@ -1,7 +1,7 @@
-// What is kept of a section that was met: the state, and the three slices of the regular ones.
+// What is kept of a section that was met: the state, and the four slices of the regular ones.
 ghost use mathlib.Core.Path.{_≡_};
 ghost use lib.ListN.{set};
-ghost use Rattle.survey.specs.Noting.{more, withSeen, withDim, dimWith, noteState, noteId, noteFirst, noteLast};
+ghost use Rattle.survey.specs.Noting.{more, withSeen, withDim, dimWith, noteState, noteId, noteFirst, noteLast, notePlace};
 use super::section::Met;
 use judging::Seen;
 use judging::State;
@@ -105,8 +105,16 @@ fn keep_in(w: &mut [u32], z: u32, v: u32)
 }
 
 // A regular section goes behind the z that are kept.
-pub(crate) fn keep(ids: &mut [u32], firsts: &mut [u32], lasts: &mut [u32], z: u32, met: Met)
-    ensures { λ _. ⌜ (now (ids .exit) ≡ noteId met z (now (ids .entry))) × ((now (firsts .exit) ≡ noteFirst met z (now (firsts .entry))) × (now (lasts .exit) ≡ noteLast met z (now (lasts .entry)))) ⌝ }
+pub(crate) fn keep(
+    ids: &mut [u32],
+    firsts: &mut [u32],
+    lasts: &mut [u32],
+    places: &mut [u32],
+    z: u32,
+    met: Met,
+    place: u32,
+)
+    ensures { λ _. ⌜ (now (ids .exit) ≡ noteId met z (now (ids .entry))) × ((now (firsts .exit) ≡ noteFirst met z (now (firsts .entry))) × ((now (lasts .exit) ≡ noteLast met z (now (lasts .entry))) × (now (places .exit) ≡ notePlace met z place (now (places .entry))))) ⌝ }
 {
     match met {
         Met::Dim(_) => {}
@@ -116,6 +124,7 @@ pub(crate) fn keep(ids: &mut [u32], firsts: &mut [u32], lasts: &mut [u32], z: u3
             keep_in(ids, z, id);
             keep_in(firsts, z, head.first.value);
             keep_in(lasts, z, head.last.value);
+            keep_in(places, z, place);
         }
         Met::Other => {}
     }

@@ -17,7 +17,7 @@ use Rattle.tokens.proofs.Runner.{word-byte}
 use Rattle.tokens.proofs.Laws.{run-more, run-stop, run-out, ends-byte, ends-file, token-is, token-end}
 
 module _ (k : Run) (s : List ℕ) where
-  abbrev Ends : ℕ → Type 0
+  abbrev pub Ends : ℕ → Type 0
   Ends n = n < length s → goesOn k (classOf (getD s n 0)) ≡ false
 
   ends-by : (n i : ℕ) → length s ≤ i + n → Ends (runAt k s i)
@@ -30,7 +30,7 @@ module _ (k : Run) (s : List ℕ) where
       (λ g. subst Ends (run-stop k s i inside g) (λ l. g)))
       (λ p l. absurd (omega (arith, l, ltb-false i (length s) p, run-out k s i (ltb-false i (length s) p))))
 
-  run-ends : (i : ℕ) → Ends (runAt k s i)
+  pub run-ends : (i : ℕ) → Ends (runAt k s i)
   run-ends i = ends-by (length s) i (omega arith)
 
 module _ (s : List ℕ) where

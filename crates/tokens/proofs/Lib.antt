@@ -4,6 +4,8 @@ pub mod Ended
 pub mod Bounds
 pub mod Listed
 pub mod Marks
+pub mod Marked
+pub mod Blanked
 mod Runs
 mod TextOf
 pub mod Text

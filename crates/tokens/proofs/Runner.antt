@@ -11,7 +11,7 @@ use Rattle.facts.proofs.Branch.{split}
 use Rattle.tokens.specs.declared.Class.{Class}
 use Rattle.tokens.specs.declared.Run.{Run}
 use Rattle.tokens.specs.declared.Token.{Token}
-use Rattle.tokens.specs.Tokens.{classOf, goesOn, runAt, startOf, endsWord, stepOf, tokenOf, tokenAt}
+use Rattle.tokens.specs.Tokens.{isBlank, classOf, goesOn, runAt, startOf, endsWord, stepOf, tokenOf, tokenAt}
 use Rattle.tokens.proofs.Laws.{run-more, run-stop, run-out, ends-byte, token-is}
 
 -- a byte that goes on with a word
@@ -39,6 +39,10 @@ word-byte b h =
       ne-eqb b 34 (λ e. omega (arith, h, e)),
       classOf,
     ) refl
+
+blank-goes : (b : ℕ) → isBlank b ≡ true → goesOn Run.Blanks (classOf b) ≡ true
+unfolding classOf
+blank-goes b e = rw (e, classOf)
 
 module _ (s : List ℕ) where
   ended : (i : ℕ) → endsWord s i ≡ true → runAt Run.Word s i ≡ i
@@ -70,3 +74,9 @@ module _ (s : List ℕ) where
   pub word-found : (at n : ℕ) → 1 ≤ n → startOf s at + n ≤ length s → ((j : ℕ) → j < n → 42 ≤ getD s (startOf s at + j) 0) → endsWord s (startOf s at + n) ≡ true
       → stepOf Token.Word (startOf s at) (startOf s at + n) ≡ tokenAt s at
   word-found at n few h g e = sym (word-is at (startOf s at) n refl few h (λ j l. word-byte (getD s (startOf s at + j) 0) (g j l)) e)
+
+  -- one blank, and behind it a byte above `)`: the token starts there
+  pub start-next : (at : ℕ) → at + 1 < length s → isBlank (getD s at 0) ≡ true → 42 ≤ getD s (at + 1) 0 → at + 1 ≡ startOf s at
+  start-next at h b g =
+      let c = only-other (classOf (getD s (at + 1) 0)) (word-byte (getD s (at + 1) 0) g) in
+      run-stop Run.Blanks s (at + 1) h (ap (λ k. goesOn Run.Blanks k) (sym c)) ∙ run-more Run.Blanks s at (omega (arith, h)) (blank-goes (getD s at 0) b)

@@ -65,6 +65,10 @@ startOf s at = runAt Run.Blanks s at
 abbrev pub markOf : List ℕ → ℕ → ℕ
 markOf s at = runAt Run.Plain s at
 
+-- where the first quote at or behind a place stands
+abbrev pub quoteOf : List ℕ → ℕ → ℕ
+quoteOf s at = runAt Run.Text s at
+
 -- a word that reaches i ends there: no byte that goes on with it stands at i
 unfoldable pub endsWord : List ℕ → ℕ → Bool
 endsWord s i = elim (ltb i (length s)) [ true ↦ not (goesOn Run.Word (classOf (getD s i 0))) | false ↦ true ]

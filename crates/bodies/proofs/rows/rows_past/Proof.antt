@@ -11,6 +11,7 @@ use Rattle.bodies.proofs.rows.rows_past.Reads as reads
 use Rattle.bodies.proofs.rows.rows_past.Lts as lts
 use Rattle.bodies.proofs.rows.rows_each.Reads as rows-each-reads
 use Rattle.bodies.proofs.rows.words_past.Reads as words-past-reads
+use Rattle.bodies.proofs.rows.hexes_past.Reads as hexes-past-reads
 
 -- src/rows.rt:196:25
 enum-told : tie.Need-enum-told
@@ -37,8 +38,8 @@ mul-words : tie.Need-mul-words
 mul-words c = omega (arith, product-fits (c .before .before .before .before .args .n) (c .before .row .given .0 .0 + 2) (omega arith) (omega (arith, c .known-told .given)))
 
 -- src/rows.rt:200:13
-words-past-requires : tie.Need-words-past-requires
-words-past-requires c κs = search needs
+hexes-past-requires : tie.Need-hexes-past-requires
+hexes-past-requires c κs = search needs
 
 -- src/rows.rt:202:23
 enum-told-2 : tie.Need-enum-told-2
@@ -61,8 +62,8 @@ mul-words-2 : tie.Need-mul-words-2
 mul-words-2 c = omega (arith, product-fits (c .before .before .before .before .args .n) (c .before .row2 .given .0 .0) (omega arith) (omega (arith, c .known-told2 .given)))
 
 -- src/rows.rt:206:13
-words-past-requires-2 : tie.Need-words-past-requires-2
-words-past-requires-2 c κs = search needs
+words-past-requires : tie.Need-words-past-requires
+words-past-requires c κs = search needs
 
 -- src/rows.rt:191:1
 returns : tie.Need-returns
@@ -70,7 +71,7 @@ returns c = search needs
 
 -- src/rows.rt:191:1
 returns-2 : tie.Need-returns-2
-returns-2 c = rw (c .before .before .row .given .1) (loose-is _ _ (facings-flat _ _ (c .before .before .before .before .before .args .n) _) (c .words-past .ensures))
+returns-2 c = rw (c .before .before .row .given .1) (loose-is _ _ (facings-flat _ _ (c .before .before .before .before .before .args .n) _) (c .hexes-past .ensures))
 
 -- src/rows.rt:191:1
 returns-3 : tie.Need-returns-3
@@ -78,7 +79,7 @@ returns-3 c = search needs
 
 -- src/rows.rt:191:1
 returns-4 : tie.Need-returns-4
-returns-4 c = rw (c .before .before .row2 .given .1) (loose-is _ _ (points-flat _ _ (c .before .before .before .before .before .args .n) _) (c .words-past2 .ensures))
+returns-4 c = rw (c .before .before .row2 .given .1) (loose-is _ _ (points-flat _ _ (c .before .before .before .before .before .args .n) _) (c .words-past .ensures))
 
 pub rows-past-spec : {M : Type 1} → statement M
 rows-past-spec =
@@ -90,13 +91,13 @@ rows-past-spec =
     cast-width
     add-width
     mul-words
-    words-past-requires
+    hexes-past-requires
     enum-told-2
     rows-each-requires-2
     enum-known-row-2
     cast-width-2
     mul-words-2
-    words-past-requires-2
+    words-past-requires
     returns
     returns-2
     returns-3

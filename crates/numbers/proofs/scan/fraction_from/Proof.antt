@@ -11,8 +11,8 @@ stands-at-requires c κs = search needs
 add-next : tie.Need-add-next
 add-next c = search needs
 
-digits-from-requires : tie.Need-digits-from-requires
-digits-from-requires c κs =
+many-from-requires : tie.Need-many-from-requires
+many-from-requires c κs =
     let s = c .before .before .before in
     point-fair (s .args .w .now) (s .args .x) (s .pre) (sym (c .before .stands-at .ensures) ∙ c .if1 .taken)
 
@@ -20,7 +20,7 @@ digits-from-requires c κs =
 returns : tie.Need-returns
 returns c =
     let s = c .before .before .before .before in
-    point-scanned (s .args .w .now) (s .args .x) (s .pre) (sym (c .before .before .stands-at .ensures) ∙ c .before .if1 .taken) _ (c .digits-from .ensures)
+    point-scanned (s .args .w .now) (s .args .x) (s .pre) (sym (c .before .before .stands-at .ensures) ∙ c .before .if1 .taken) _ (c .many-from .ensures)
 
 -- no point
 returns-2 : tie.Need-returns-2
@@ -30,4 +30,4 @@ returns-2 c =
 
 pub fraction-from-spec : {M : Type 1} → statement M
 fraction-from-spec =
-    tie.close (tie.spec stands-at-requires add-next digits-from-requires returns returns-2)
+    tie.close (tie.spec stands-at-requires add-next many-from-requires returns returns-2)

@@ -1,16 +1,14 @@
-use Rattle.layout.proofs.Shown.{shown-only}
-use Rattle.reader.proofs.Cored.{few-coordinates}
 use mathlib.Core.Path.{refl, ap, _∙_}
-use native.Mathlib.Nat.{min-le-right}
 use Rattle.layout.specs.Read.{answerOf}
+use Rattle.layout.proofs.Shown.{shown-only}
+use Rattle.judging.specs.declared.judge.Room.{Room}
 use Rattle.survey.specs.Sections.{roomAll}
 use Rattle.survey.specs.Files.{verdict}
-use Rattle.judging.specs.declared.judge.Room.{Room}
-use Rattle.reader.proofs.Cored.{core-refused, core-accepted}
+use Rattle.survey.specs.Sites.{placesOf}
+use Rattle.reader.proofs.Cored.{few-coordinates, few-accepted, core-refused, core-accepted}
 use Rattle.reader.specs.Found.{roomWith, told, coreOf}
 use borrow.Author.Needs.{needs}
 use native.Mathlib.Omega.{arith}
-use borrow.Author.Needs.{needs}
 use Rattle.reader.proofs.core.read_flat.Statement.{statement}
 use Rattle.reader.proofs.core.read_flat.Tie as tie
 use Rattle.reader.proofs.core.read_flat.Reads as reads
@@ -18,78 +16,64 @@ use Rattle.reader.proofs.core.read_flat.Lts as lts
 use Rattle.reader.proofs.core.coordinates_in.Reads as coordinates-in-reads
 use Rattle.reader.proofs.core.room_for.Reads as room-for-reads
 use Rattle.reader.proofs.fill.fill_tables.Reads as fill-tables-reads
-use Rattle.survey.proofs.survey.Reads as survey-reads
+use Rattle.survey.proofs.locate.Reads as locate-reads
 
--- src/core.rt:56:9
 room-for-requires : tie.Need-room-for-requires
 room-for-requires c κs = search needs
 
--- src/core.rt:57:9
-survey-requires : tie.Need-survey-requires
-survey-requires c κs = search needs
+locate-requires : tie.Need-locate-requires
+locate-requires c κs = search needs
 
--- src/core.rt:67:13
 enum-told : tie.Need-enum-told
 enum-told c = search needs
 
--- src/core.rt:70:13
 enum-known-reply : tie.Need-enum-known-reply
 enum-known-reply c = search needs
 
--- src/core.rt:76:17
 coordinates-in-requires : tie.Need-coordinates-in-requires
 coordinates-in-requires c κs = search needs
 
--- src/core.rt:77:67
+cast-n : tie.Need-cast-n
+cast-n c = search needs
+
 slice-aggregate-fill-tables : tie.Need-slice-aggregate-fill-tables
 slice-aggregate-fill-tables c = search needs
 
--- src/core.rt:77:13
 fill-tables-requires : tie.Need-fill-tables-requires
-fill-tables-requires c κs = few-coordinates _ _ (c .before .before .before .before .before .coordinates-in .ensures)
+fill-tables-requires c κs = let a = c .before .before .before .before .before .before .before .before .before .before .before .before .before .before .before .before .args in (few-accepted (roomWith (record { mantissas = a .mantissas .now; exponents = a .exponents .now; faces = a .faces .now; cells = a .cells .now }) (a .room)) (a .s .now) (record { mantissas = a .mantissas .now; exponents = a .exponents .now; faces = a .faces .now; cells = a .cells .now }) _ (shown-only _ _ (c .before .before .before .before .before .before .before .before .before .before .before .locate .ensures .0) ∙ ap (λ (y : Room). verdict (answerOf (roomAll y) (a .s .now))) (c .before .before .before .before .before .before .before .before .before .before .before .before .room-for .ensures)) _ _ _ _ _ (c .before .before .before .before .before .before .before .before .reply .given .1), few-coordinates _ _ (c .before .before .before .before .before .before .coordinates-in .ensures))
 
--- src/core.rt:78:25
-cast-count : tie.Need-cast-count
-cast-count c = search needs
-
--- src/core.rt:46:1
 returns : tie.Need-returns
 unfolding coreOf
-returns c = let a = c .before .before .before .before .before .before .before .args in ap told (core-refused (answerOf (roomWith (record { mantissas = a .mantissas .now; exponents = a .exponents .now; faces = a .faces .now; cells = a .cells .now }) (a .room)) (a .s .now)) _ _ (shown-only _ _ (c .before .before .survey .ensures) ∙ ap (λ (y : Room). verdict (answerOf (roomAll y) (a .s .now))) (c .before .before .before .room-for .ensures)) _ _ _ (c .enum-told .given .1))
+returns c = let a = c .before .before .before .before .before .before .before .before .args in ap told (core-refused (answerOf (roomWith (record { mantissas = a .mantissas .now; exponents = a .exponents .now; faces = a .faces .now; cells = a .cells .now }) (a .room)) (a .s .now)) _ _ (shown-only _ _ (c .before .before .before .locate .ensures .0) ∙ ap (λ (y : Room). verdict (answerOf (roomAll y) (a .s .now))) (c .before .before .before .before .room-for .ensures)) _ _ _ (c .enum-told .given .1))
 
--- src/core.rt:46:1
 same-length : tie.Need-same-length
 same-length c = search needs
 
--- src/core.rt:46:1
 same-length-2 : tie.Need-same-length-2
 same-length-2 c = search needs
 
--- src/core.rt:46:1
 same-length-3 : tie.Need-same-length-3
 same-length-3 c = search needs
 
--- src/core.rt:46:1
 same-length-4 : tie.Need-same-length-4
 same-length-4 c = search needs
 
--- src/core.rt:46:1
 returns-2 : tie.Need-returns-2
 unfolding coreOf
-returns-2 c = let a = c .before .before .before .before .before .before .before .before .before .before .before .before .before .before .before .before .before .before .before .before .before .before .args in ap told (core-accepted (roomWith (record { mantissas = a .mantissas .now; exponents = a .exponents .now; faces = a .faces .now; cells = a .cells .now }) (a .room)) (a .s .now) _ _ (shown-only _ _ (c .before .before .before .before .before .before .before .before .before .before .before .before .before .before .before .before .before .survey .ensures) ∙ ap (λ (y : Room). verdict (answerOf (roomAll y) (a .s .now))) (c .before .before .before .before .before .before .before .before .before .before .before .before .before .before .before .before .before .before .room-for .ensures)) _ _ _ _ _ (c .before .before .before .before .before .before .before .before .before .before .before .before .before .before .before .reply .given .1) _ (c .before .before .before .before .before .before .before .before .before .before .before .before .before .coordinates-in .ensures) _ (c .before .before .before .before .before .before .before .fill-tables .ensures) _ refl)
+returns-2 c = let a = c .before .before .before .before .before .before .before .before .before .before .before .before .before .before .before .before .before .before .before .before .before .before .before .before .args in ap told (core-accepted (roomWith (record { mantissas = a .mantissas .now; exponents = a .exponents .now; faces = a .faces .now; cells = a .cells .now }) (a .room)) (a .s .now) _ _ (shown-only _ _ (c .before .before .before .before .before .before .before .before .before .before .before .before .before .before .before .before .before .before .before .locate .ensures .0) ∙ ap (λ (y : Room). verdict (answerOf (roomAll y) (a .s .now))) (c .before .before .before .before .before .before .before .before .before .before .before .before .before .before .before .before .before .before .before .before .room-for .ensures)) _ _ _ _ _ (c .before .before .before .before .before .before .before .before .before .before .before .before .before .before .before .before .reply .given .1) _ (c .before .before .before .before .before .before .before .before .before .before .before .before .before .before .coordinates-in .ensures) _ (c .before .before .before .before .before .before .before .before .before .before .before .before .before .before .before .before .before .before .before .locate .ensures .1 ∙ ap (λ (y : Room). placesOf (roomAll y) (a .s .now)) (c .before .before .before .before .before .before .before .before .before .before .before .before .before .before .before .before .before .before .before .before .room-for .ensures)) _ refl _ (c .before .before .before .before .before .before .before .fill-tables .ensures))
 
 pub read-flat-spec : {M : Type 1} → statement M
 read-flat-spec =
     tie.close
     (tie.spec
     room-for-requires
-    survey-requires
+    locate-requires
     enum-told
     enum-known-reply
     coordinates-in-requires
+    cast-n
     slice-aggregate-fill-tables
     fill-tables-requires
-    cast-count
     returns
     same-length
     same-length-2

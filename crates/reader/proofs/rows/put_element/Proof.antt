@@ -7,11 +7,11 @@ use Rattle.reader.proofs.rows.put_element.Tie as tie
 use Rattle.reader.proofs.rows.put_element.Reads as reads
 use Rattle.reader.proofs.rows.put_element.Lts as lts
 use Rattle.mesh.proofs.store.Reads as store-reads
-use Rattle.reader.proofs.words.value_at.Reads as value-at-reads
+use Rattle.reader.proofs.words.count_at.Reads as count-at-reads
 
 -- src/rows.rt:104:9
-value-at-requires : tie.Need-value-at-requires
-value-at-requires c κs = search needs
+count-at-requires : tie.Need-count-at-requires
+count-at-requires c κs = search needs
 
 -- src/rows.rt:105:5
 store-requires : tie.Need-store-requires
@@ -31,9 +31,9 @@ same-length c = search needs
 
 -- src/rows.rt:100:1
 returns : tie.Need-returns
-returns c = let a = c .before .before .before .before .before .before .before .before .before .before .before .args in element-put _ _ _ _ (a .ztype) (a .k) (a .rows .now) _ (c .before .before .before .before .before .before .before .before .value-at .ensures) (c .before .before .before .before .before .before .store .ensures) (c .before .before .store2 .ensures)
+returns c = let a = c .before .before .before .before .before .before .before .before .before .before .before .args in element-put _ _ _ _ (a .ztype) (a .k) (a .rows .now) _ (c .before .before .before .before .before .before .before .before .count-at .ensures) (c .before .before .before .before .before .before .store .ensures) (c .before .before .store2 .ensures)
 
 pub put-element-spec : {M : Type 1} → statement M
 put-element-spec =
     tie.close
-    (tie.spec value-at-requires store-requires add-last store-requires-2 same-length returns)
+    (tie.spec count-at-requires store-requires add-last store-requires-2 same-length returns)

@@ -6,15 +6,15 @@ use Rattle.reader.proofs.rows.put_mixed.Tie as tie
 use Rattle.reader.proofs.rows.put_mixed.Reads as reads
 use Rattle.reader.proofs.rows.put_mixed.Lts as lts
 use Rattle.reader.proofs.rows.put_facing.Reads as put-facing-reads
-use Rattle.reader.proofs.words.value_at.Reads as value-at-reads
+use Rattle.reader.proofs.words.count_at.Reads as count-at-reads
 
 -- src/rows.rt:91:9
-value-at-requires : tie.Need-value-at-requires
-value-at-requires c κs = search needs
+count-at-requires : tie.Need-count-at-requires
+count-at-requires c κs = search needs
 
 -- src/rows.rt:95:9
 returns : tie.Need-returns
-returns c = mixed-never _ _ _ _ _ (c .before .value-at .ensures) (c .if1 .taken)
+returns c = mixed-never _ _ _ _ _ (c .before .count-at .ensures) (c .if1 .taken)
 
 -- src/rows.rt:97:5
 put-facing-requires : tie.Need-put-facing-requires
@@ -26,8 +26,8 @@ same-length c = search needs
 
 -- src/rows.rt:87:1
 returns-2 : tie.Need-returns-2
-returns-2 c = let a = c .before .before .before .before .before .before .before .before .args in mixed-put _ _ _ _ _ (a .ztype) (a .k) (a .rows .now) (c .before .before .before .before .before .value-at .ensures) (c .before .before .put-facing .ensures)
+returns-2 c = let a = c .before .before .before .before .before .before .before .before .args in mixed-put _ _ _ _ _ (a .ztype) (a .k) (a .rows .now) (c .before .before .before .before .before .count-at .ensures) (c .before .before .put-facing .ensures)
 
 pub put-mixed-spec : {M : Type 1} → statement M
 put-mixed-spec =
-    tie.close (tie.spec value-at-requires returns put-facing-requires same-length returns-2)
+    tie.close (tie.spec count-at-requires returns put-facing-requires same-length returns-2)

@@ -1,62 +1,62 @@
-use Rattle.steps.proofs.Knowing.{known-past, known-is, known-fits}
-use Rattle.steps.proofs.Quickly.{hexes-here}
+use mathlib.Core.Path.{_∙_}
+use Rattle.steps.proofs.Near.{from-below, near-found}
+use Rattle.steps.proofs.Knowing.{known-from}
 use borrow.Author.Needs.{needs}
 use native.Mathlib.Omega.{arith}
-use borrow.Author.Needs.{needs}
 use Rattle.steps.proofs.quick.known_hex.Statement.{statement}
 use Rattle.steps.proofs.quick.known_hex.Tie as tie
 use Rattle.steps.proofs.quick.known_hex.Reads as reads
 use Rattle.steps.proofs.quick.known_hex.Lts as lts
-use Rattle.numbers.proofs.hexes_in.Reads as hexes-in-reads
-use Rattle.steps.proofs.quick.window_end.Reads as window-end-reads
+use Rattle.steps.proofs.quick.hexes_from.Reads as hexes-from-reads
+use Rattle.steps.proofs.quick.known_of.Reads as known-of-reads
+use Rattle.steps.proofs.quick.near_hexes.Reads as near-hexes-reads
 use Rattle.tokens.proofs.Cursor.start.Reads as start-reads
 
--- src/quick.rt:65:9
+-- src/quick.rt:123:9
+near-hexes-requires : tie.Need-near-hexes-requires
+near-hexes-requires c κs = search needs
+
+-- src/quick.rt:125:20
+add-from : tie.Need-add-from
+add-from c = omega (arith, near-found _ _ _ (c .before .before .near-hexes .ensures) (c .if1 .taken) .within)
+
+-- src/quick.rt:126:9
+known-of-requires : tie.Need-known-of-requires
+known-of-requires c κs =
+    let n = near-found _ _ _ (c .before .before .near-hexes .ensures) (c .if1 .taken) in
+    from-below _ _ _ _ (omega (arith, n .within)) (omega arith) (n .found)
+
+-- src/quick.rt:126:9
+returns : tie.Need-returns
+returns c =
+    let n = near-found _ _ _ (c .before .before .before .near-hexes .ensures) (c .before .if1 .taken) in
+    c .known-of .ensures ∙ known-from _ _ _ _ (n .starts) (n .found)
+
+-- src/quick.rt:128:9
 start-requires : tie.Need-start-requires
 start-requires c κs = search needs
 
--- src/quick.rt:68:9
-returns : tie.Need-returns
-returns c = known-past _ _ _ (c .before .start .ensures) (c .if1 .taken)
+-- src/quick.rt:129:9
+hexes-from-requires : tie.Need-hexes-from-requires
+hexes-from-requires c κs = search needs
 
--- src/quick.rt:73:9
-window-end-requires : tie.Need-window-end-requires
-window-end-requires c κs = search needs
+-- src/quick.rt:130:5
+known-of-requires-2 : tie.Need-known-of-requires-2
+known-of-requires-2 c κs = from-below _ _ _ _ (c .before .start .ok) (omega arith) (c .hexes-from .ensures)
 
--- src/quick.rt:74:31
-sub-hexes-in : tie.Need-sub-hexes-in
-sub-hexes-in c = search needs
-
--- src/quick.rt:74:31
-part-hexes-in-start : tie.Need-part-hexes-in-start
-part-hexes-in-start c = search needs
-
--- src/quick.rt:74:31
-part-hexes-in-end : tie.Need-part-hexes-in-end
-part-hexes-in-end c = search needs
-
--- src/quick.rt:74:9
-hexes-in-requires : tie.Need-hexes-in-requires
-hexes-in-requires c κs = search needs
-
--- src/quick.rt:76:16
-add-next : tie.Need-add-next
-add-next c = omega (arith, known-fits _ _ _ (c .before .before .before .before .before .start .ensures) _ (hexes-here _ _ _ _ _ (c .before .before .before .before .before .start .ensures) (omega (arith, c .before .before .before .before .if1 .left)) (c .before .before .before .window-end .ensures) (c .before .hexes-in .ensures)) (omega (arith, c .before .before .before .before .if1 .left)))
-
--- src/quick.rt:62:1
+-- src/quick.rt:120:1
 returns-2 : tie.Need-returns-2
-returns-2 c = known-is _ _ _ (c .before .before .before .before .before .start .ensures) _ (hexes-here _ _ _ _ _ (c .before .before .before .before .before .start .ensures) (omega (arith, c .before .before .before .before .if1 .left)) (c .before .before .before .window-end .ensures) (c .before .hexes-in .ensures))
+returns-2 c = c .known-of2 .ensures ∙ known-from _ _ _ _ (c .before .before .start .ensures) (c .before .hexes-from .ensures)
 
 pub known-hex-spec : {M : Type 1} → statement M
 known-hex-spec =
     tie.close
     (tie.spec
-    start-requires
+    near-hexes-requires
+    add-from
+    known-of-requires
     returns
-    window-end-requires
-    sub-hexes-in
-    part-hexes-in-start
-    part-hexes-in-end
-    hexes-in-requires
-    add-next
+    start-requires
+    hexes-from-requires
+    known-of-requires-2
     returns-2)

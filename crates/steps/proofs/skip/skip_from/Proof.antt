@@ -4,7 +4,8 @@ use lib.ListN.{length}
 use mathlib.Core.Path.{refl}
 use Rattle.tokens.specs.declared.Token.{Token}
 use Rattle.tokens.proofs.Listed.{moved}
-use Rattle.steps.proofs.Stepping.{Left, mark-ahead, skip-on, skip-open, skip-deep, skip-last, skip-close, skip-word, skip-text, skip-end, skip-cut}
+use Rattle.tokens.proofs.Marked.{mark-left, mark-right, mark-end, mark-text, mark-cut}
+use Rattle.steps.proofs.Stepping.{Left, mark-ahead, skip-on, skip-open, skip-deep, skip-last, skip-close, skip-text, skip-end, skip-cut}
 use borrow.Author.Needs.{needs}
 use native.Mathlib.Omega.{arith}
 use Rattle.steps.proofs.skip.skip_from.Statement.{statement}
@@ -13,97 +14,97 @@ use Rattle.steps.proofs.skip.skip_from.Reads as reads
 use Rattle.steps.proofs.skip.skip_from.Lts as lts
 use Rattle.steps.proofs.skip.no.Reads as no-reads
 use Rattle.tokens.proofs.Cursor.mark.Reads as mark-reads
-use Rattle.tokens.proofs.Cursor.token.Reads as token-reads
+use Rattle.tokens.proofs.Cursor.quote.Reads as quote-reads
 
 abbrev Inv-loop : tie.InvT-loop
-Inv-loop s at c₀ d₀ c d = Left s at c d
+Inv-loop s at size c₀ d₀ c d = Left s at c d
 
 abbrev μ-loop : tie.MeasureT-loop
-μ-loop s at c₀ d₀ c d = length s - c
+μ-loop s at size c₀ d₀ c d = length s - c
 
+-- src/skip.rt:28:5
 loop-holds : tie.Need-loop-holds Inv-loop μ-loop
 loop-holds c = record { from = omega arith; deep = lit< tt; same = refl }
 
+-- src/skip.rt:29:13
 mark-requires : tie.Need-mark-requires Inv-loop μ-loop
 mark-requires c κs = search needs
 
-token-requires : tie.Need-token-requires Inv-loop μ-loop
-token-requires c κs = search needs
-
-enum-told : tie.Need-enum-told Inv-loop μ-loop
-enum-told c = search needs
-
-add-deeper : tie.Need-add-deeper Inv-loop μ-loop
-add-deeper c = omega (arith, c .before .before .before .before .loop .inv .deep)
-
+-- src/skip.rt:31:13
 no-requires : tie.Need-no-requires Inv-loop μ-loop
 no-requires c κs = search needs
 
+-- src/skip.rt:31:13
 returns : tie.Need-returns Inv-loop μ-loop
-returns c =
-    let b = c .before in
-    rw (c .no .ensures) (skip-deep _ _ _ _ (skip-on _ _ _ _ _ (b .before .before .before .before .before .loop .inv) (b .before .before .before .before .mark .ensures)) _ (b .before .before .before .token .ensures) (b .before .enum-told .given .1) (b .if1 .taken))
+returns c = rw (c .no .ensures) (skip-end _ _ _ _ (skip-on _ _ _ _ _ (c .before .before .before .loop .inv) (c .before .before .mark .ensures)) _ (mark-end _ _ (c .before .if1 .taken)) refl)
 
-loop-less : tie.Need-loop-less Inv-loop μ-loop
-loop-less c = let v = moved _ _ _ Token.Left (c .before .before .before .token .ensures) (c .before .enum-told .given .1) tt in omega (arith, mark-ahead _ _ _ (c .before .before .before .before .mark .ensures))
+-- src/skip.rt:33:17
+shared-slice-read-b : tie.Need-shared-slice-read-b Inv-loop μ-loop
+shared-slice-read-b c = search needs
 
-loop-again : tie.Need-loop-again Inv-loop μ-loop
-loop-again c = skip-open _ _ _ _ (skip-on _ _ _ _ _ (c .before .before .before .before .before .loop .inv) (c .before .before .before .before .mark .ensures)) _ (c .before .before .before .token .ensures) (c .before .enum-told .given .1) (c .if1 .left)
+-- src/skip.rt:34:22
+add-inside : tie.Need-add-inside Inv-loop μ-loop
+add-inside c = search needs
 
-enum-told-2 : tie.Need-enum-told-2 Inv-loop μ-loop
-enum-told-2 c = search needs
+-- src/skip.rt:36:26
+add-deeper : tie.Need-add-deeper Inv-loop μ-loop
+add-deeper c = omega (arith, c .before .before .before .before .loop .inv .deep)
 
-returns-2 : tie.Need-returns-2 Inv-loop μ-loop
-returns-2 c = skip-last _ _ _ _ (skip-on _ _ _ _ _ (c .before .before .before .before .before .loop .inv) (c .before .before .before .before .mark .ensures)) _ (c .before .before .before .token .ensures) (c .before .enum-told2 .given .1) (c .if2 .taken)
-
-sub-d : tie.Need-sub-d Inv-loop μ-loop
-sub-d c = omega arith
-
-loop-less-2 : tie.Need-loop-less-2 Inv-loop μ-loop
-loop-less-2 c = let v = moved _ _ _ Token.Right (c .before .before .before .token .ensures) (c .before .enum-told2 .given .1) tt in omega (arith, mark-ahead _ _ _ (c .before .before .before .before .mark .ensures))
-
-loop-again-2 : tie.Need-loop-again-2 Inv-loop μ-loop
-loop-again-2 c = skip-close _ _ _ _ (skip-on _ _ _ _ _ (c .before .before .before .before .before .loop .inv) (c .before .before .before .before .mark .ensures)) _ (c .before .before .before .token .ensures) (c .before .enum-told2 .given .1) (c .if2 .left)
-
-enum-told-3 : tie.Need-enum-told-3 Inv-loop μ-loop
-enum-told-3 c = search needs
-
-loop-less-3 : tie.Need-loop-less-3 Inv-loop μ-loop
-loop-less-3 c = let v = moved _ _ _ Token.Word (c .before .before .token .ensures) (c .enum-told3 .given .1) tt in omega (arith, mark-ahead _ _ _ (c .before .before .before .mark .ensures))
-
-loop-again-3 : tie.Need-loop-again-3 Inv-loop μ-loop
-loop-again-3 c = skip-word _ _ _ _ (skip-on _ _ _ _ _ (c .before .before .before .before .loop .inv) (c .before .before .before .mark .ensures)) _ (c .before .before .token .ensures) (c .enum-told3 .given .1)
-
-enum-told-4 : tie.Need-enum-told-4 Inv-loop μ-loop
-enum-told-4 c = search needs
-
-loop-less-4 : tie.Need-loop-less-4 Inv-loop μ-loop
-loop-less-4 c = let v = moved _ _ _ Token.Text (c .before .before .token .ensures) (c .enum-told4 .given .1) tt in omega (arith, mark-ahead _ _ _ (c .before .before .before .mark .ensures))
-
-loop-again-4 : tie.Need-loop-again-4 Inv-loop μ-loop
-loop-again-4 c = skip-text _ _ _ _ (skip-on _ _ _ _ _ (c .before .before .before .before .loop .inv) (c .before .before .before .mark .ensures)) _ (c .before .before .token .ensures) (c .enum-told4 .given .1)
-
-enum-told-5 : tie.Need-enum-told-5 Inv-loop μ-loop
-enum-told-5 c = search needs
-
+-- src/skip.rt:38:17
 no-requires-2 : tie.Need-no-requires-2 Inv-loop μ-loop
 no-requires-2 c κs = search needs
 
+-- src/skip.rt:38:17
+returns-2 : tie.Need-returns-2 Inv-loop μ-loop
+returns-2 c = rw (c .no2 .ensures) (skip-deep _ _ _ _ (skip-on _ _ _ _ _ (c .before .before .before .before .before .before .loop .inv) (c .before .before .before .before .before .mark .ensures)) _ (mark-left _ _ (omega (arith, c .before .before .before .before .if1 .left)) (c .before .before .if2 .taken)) refl (c .before .if3 .taken))
+
+-- src/skip.rt:28:5
+loop-less : tie.Need-loop-less Inv-loop μ-loop
+loop-less c = omega (arith, c .before .before .before .if1 .left, mark-ahead _ _ _ (c .before .before .before .before .mark .ensures))
+
+-- src/skip.rt:28:5
+loop-again : tie.Need-loop-again Inv-loop μ-loop
+loop-again c = skip-open _ _ _ _ (skip-on _ _ _ _ _ (c .before .before .before .before .before .loop .inv) (c .before .before .before .before .mark .ensures)) _ (mark-left _ _ (omega (arith, c .before .before .before .if1 .left)) (c .before .if2 .taken)) refl (c .if3 .left)
+
+-- src/skip.rt:46:17
 returns-3 : tie.Need-returns-3 Inv-loop μ-loop
-returns-3 c =
-    let b = c .before in
-    rw (c .no2 .ensures) (skip-end _ _ _ _ (skip-on _ _ _ _ _ (b .before .before .before .before .loop .inv) (b .before .before .before .mark .ensures)) _ (b .before .before .token .ensures) (b .enum-told5 .given .1))
+returns-3 c = skip-last _ _ _ _ (skip-on _ _ _ _ _ (c .before .before .before .before .before .before .loop .inv) (c .before .before .before .before .before .mark .ensures)) _ (mark-right _ _ (omega (arith, c .before .before .before .before .if1 .left)) (c .before .if4 .taken)) refl (c .if5 .taken)
 
-enum-told-6 : tie.Need-enum-told-6 Inv-loop μ-loop
-enum-told-6 c = search needs
+-- src/skip.rt:48:13
+sub-d : tie.Need-sub-d Inv-loop μ-loop
+sub-d c = omega arith
 
+-- src/skip.rt:28:5
+loop-less-2 : tie.Need-loop-less-2 Inv-loop μ-loop
+loop-less-2 c = omega (arith, c .before .before .before .before .if1 .left, mark-ahead _ _ _ (c .before .before .before .before .before .mark .ensures))
+
+-- src/skip.rt:28:5
+loop-again-2 : tie.Need-loop-again-2 Inv-loop μ-loop
+loop-again-2 c = skip-close _ _ _ _ (skip-on _ _ _ _ _ (c .before .before .before .before .before .before .loop .inv) (c .before .before .before .before .before .mark .ensures)) _ (mark-right _ _ (omega (arith, c .before .before .before .before .if1 .left)) (c .before .if4 .taken)) refl (c .if5 .left)
+
+-- src/skip.rt:52:13
+quote-requires : tie.Need-quote-requires Inv-loop μ-loop
+quote-requires c κs = search needs
+
+-- src/skip.rt:54:13
 no-requires-3 : tie.Need-no-requires-3 Inv-loop μ-loop
 no-requires-3 c κs = search needs
 
+-- src/skip.rt:54:13
 returns-4 : tie.Need-returns-4 Inv-loop μ-loop
-returns-4 c =
-    let b = c .before in
-    rw (c .no3 .ensures) (skip-cut _ _ _ _ (skip-on _ _ _ _ _ (b .before .before .before .before .loop .inv) (b .before .before .before .mark .ensures)) _ (b .before .before .token .ensures) (b .enum-told6 .given .1))
+returns-4 c = rw (c .no3 .ensures) (skip-cut _ _ _ _ (skip-on _ _ _ _ _ (c .before .before .before .before .before .before .before .before .loop .inv) (c .before .before .before .before .before .before .before .mark .ensures)) _ (mark-cut _ _ _ (c .before .before .before .before .before .before .before .mark .ensures) (omega (arith, c .before .before .before .before .before .before .if1 .left)) (c .before .before .before .before .if2 .left) (c .before .before .before .if4 .left) _ (c .before .before .quote .ensures) (c .before .if6 .taken)) refl)
+
+-- src/skip.rt:56:13
+add-c : tie.Need-add-c Inv-loop μ-loop
+add-c c = search needs
+
+-- src/skip.rt:28:5
+loop-less-3 : tie.Need-loop-less-3 Inv-loop μ-loop
+loop-less-3 c = let v = moved _ _ _ Token.Text (mark-text _ _ _ (c .before .before .before .before .before .before .mark .ensures) (omega (arith, c .before .before .before .before .before .if1 .left)) (c .before .before .before .if2 .left) (c .before .before .if4 .left) _ (c .before .quote .ensures) (omega (arith, c .if6 .left))) refl tt in omega (arith, mark-ahead _ _ _ (c .before .before .before .before .before .before .mark .ensures))
+
+-- src/skip.rt:28:5
+loop-again-3 : tie.Need-loop-again-3 Inv-loop μ-loop
+loop-again-3 c = skip-text _ _ _ _ (skip-on _ _ _ _ _ (c .before .before .before .before .before .before .before .loop .inv) (c .before .before .before .before .before .before .mark .ensures)) _ (mark-text _ _ _ (c .before .before .before .before .before .before .mark .ensures) (omega (arith, c .before .before .before .before .before .if1 .left)) (c .before .before .before .if2 .left) (c .before .before .if4 .left) _ (c .before .quote .ensures) (omega (arith, c .if6 .left))) refl
 
 pub skip-from-spec : {M : Type 1} → statement M
 skip-from-spec =
@@ -113,27 +114,22 @@ skip-from-spec =
     μ-loop
     loop-holds
     mark-requires
-    token-requires
-    enum-told
-    add-deeper
     no-requires
     returns
+    shared-slice-read-b
+    add-inside
+    add-deeper
+    no-requires-2
+    returns-2
     loop-less
     loop-again
-    enum-told-2
-    returns-2
+    returns-3
     sub-d
     loop-less-2
     loop-again-2
-    enum-told-3
-    loop-less-3
-    loop-again-3
-    enum-told-4
-    loop-less-4
-    loop-again-4
-    enum-told-5
-    no-requires-2
-    returns-3
-    enum-told-6
+    quote-requires
     no-requires-3
-    returns-4)
+    returns-4
+    add-c
+    loop-less-3
+    loop-again-3)

@@ -1,0 +1,364 @@
+-- Eight bytes, all of them digits and blanks: what their lanes say of the words. Assumes nothing.
+use Prim.Native.Nat.{ℕ, zero, suc, _+_, _-_, _*_, _/_, _%_, _^_, _≤_, _<_, zero-le}
+use native.Mathlib.Nat.{lt-of-le-of-lt, mod-eq-of-lt, mul-add-mod-self-right, mul-le-mul-right, pow-suc, zero-mul}
+use native.Mathlib.Omega.{arith}
+use mathlib.Core.Path.{_≡_, refl, sym, ap, ap₂, subst, _∙_}
+use mathlib.Core.List.{List, [], _∷_, _++_, map}
+use mathlib.Core.Bool.{Bool, true, false, not}
+use borrow.Author.Tests.{eqb-true, ltb-true, ltb-false}
+use lib.Dec.{eqb, ltb, lit<, lit≤}
+use lib.ListN.{length, replicate, length-map}
+use lib.Bits.{bitAnd, bitOr, bitXor, and-block, or-block, xor-block, and-le-l, and-le-r, and-lt, or-lt, xor-lt, or-zero-r}
+use lib.Count.{ones, ones-cat, trailingZeros, leadingZeros, leading-top, leading-unique}
+use lib.Pow.{pow-add, pow-pos}
+use Rattle.facts.proofs.Branch.{split, either, differ}
+use Rattle.tokens.specs.Tokens.{isBlank}
+use Rattle.numbers.specs.Whole.{digitOf, Digits, digitsIn}
+use Rattle.numbers.specs.Lanes.{lanes, Under, Laned, marksOf}
+use Rattle.numbers.proofs.Laning.{Small, sum-apart, lanes-append, lanes-lt}
+use Rattle.numbers.proofs.Grouping.{each, each-is, markOf, map-same, small-and, both, same, whole, masked, added, marks-in}
+use Rattle.numbers.proofs.Gathered.{gathered-count}
+use Rattle.bodies.specs.Blocks.{unlikeOf, blanksOf, carryOf, wordsOf, isHex, Plain, one, ends, tail, Fair, Read}
+
+-- ---- blanks
+abbrev unlike : ℕ → ℕ → ℕ
+unlike b c = bitOr (bitAnd (bitXor b c) 127 + 127) (bitXor b c)
+
+abbrev blank : ℕ → ℕ
+blank b = bitXor (bitAnd (bitAnd (bitAnd (unlike b 32) (unlike b 10)) (unlike (bitAnd b 251) 9)) 128) 128
+
+abbrev blankOf : ℕ → ℕ
+blankOf b = elim (isBlank b) [ true ↦ 128 | false ↦ 0 ]
+
+blanks-all : each 256 (λ b. eqb (blank b) (blankOf b)) ≡ true
+blanks-all = refl
+
+blank-is : (b : ℕ) → b < 256 → blank b ≡ blankOf b
+blank-is b h = eqb-true _ _ (each-is 256 (λ c. eqb (blank c) (blankOf c)) blanks-all b h)
+
+small-xor : (g : ℕ → ℕ) (c : ℕ) → Small g → c < 256 → Small (λ b. bitXor (g b) c)
+small-xor g c s l b h = xor-lt 8 (g b) c (s b h) l
+
+small-sum : (g : ℕ → ℕ) → Small (λ b. bitAnd (g b) 127 + 127)
+small-sum g b h = omega (arith, and-le-r (g b) 127)
+
+small-unlike : (g : ℕ → ℕ) (c : ℕ) → Small g → c < 256 → Small (λ b. unlike (g b) c)
+small-unlike g c s l b h = or-lt 8 (bitAnd (bitXor (g b) c) 127 + 127) (bitXor (g b) c) (small-sum (λ d. bitXor (g d) c) b h) (xor-lt 8 (g b) c (s b h) l)
+
+module _ (w : List ℕ) (n : length w ≡ 8) (u : Under 256 w) where
+  unlike-in : (g : ℕ → ℕ) (c k : ℕ) {x : ℕ} → Small g → c < 256 → k ≡ lanes 8 (replicate 8 c) → x ≡ lanes 8 (map g w) → unlikeOf x k ≡ lanes 8 (map (λ b. unlike (g b) c) w)
+  unfolding lanes
+  unlike-in g c k s l e p =
+      let y = both w n u bitXor xor-block refl g (λ _. c) s (λ b h. l) p (same w n u c k e) in
+      let sy = small-xor g c s l in
+      let low = both w n u bitAnd and-block refl (λ b. bitXor (g b) c) (λ _. 127) sy (λ b h. lit< tt) y (same w n u 127 0x7f7f7f7f7f7f7f7f refl) in
+      let sum = added w n u (λ b. bitAnd (bitXor (g b) c) 127) 127 0x7f7f7f7f7f7f7f7f (small-and (λ b. bitXor (g b) c) 127 (lit< tt)) (lit< tt) refl low in
+      both w n u bitOr or-block refl (λ b. bitAnd (bitXor (g b) c) 127 + 127) (λ b. bitXor (g b) c) (small-sum (λ b. bitXor (g b) c)) sy sum y
+
+  pub blanks-in : blanksOf (lanes 8 w) ≡ lanes 8 (map blankOf w)
+  unfolding lanes
+  blanks-in =
+      let top = same w n u 128 0x8080808080808080 refl in
+      let si : Small (λ b. b) = λ b h. h in
+      let sm = small-and (λ b. b) 251 (lit< tt) in
+      let s₁ = small-unlike (λ b. b) 32 si (lit< tt) in
+      let s₂ = small-unlike (λ b. b) 10 si (lit< tt) in
+      let s₃ = small-unlike (λ b. bitAnd b 251) 9 sm (lit< tt) in
+      let a = unlike-in (λ b. b) 32 0x2020202020202020 si (lit< tt) refl (whole w n u) in
+      let b = unlike-in (λ b. b) 10 0x0a0a0a0a0a0a0a0a si (lit< tt) refl (whole w n u) in
+      let c = unlike-in (λ b. bitAnd b 251) 9 0x0909090909090909 sm (lit< tt) refl (masked w n u 251 0xfbfbfbfbfbfbfbfb (lit< tt) refl) in
+      let ab = both w n u bitAnd and-block refl (λ b. unlike b 32) (λ b. unlike b 10) s₁ s₂ a b in
+      let sab : Small (λ b. bitAnd (unlike b 32) (unlike b 10)) = λ b h. and-lt 8 _ _ (s₁ b h) (s₂ b h) in
+      let abc = both w n u bitAnd and-block refl (λ b. bitAnd (unlike b 32) (unlike b 10)) (λ b. unlike (bitAnd b 251) 9) sab s₃ ab c in
+      let sabc : Small (λ b. bitAnd (bitAnd (unlike b 32) (unlike b 10)) (unlike (bitAnd b 251) 9)) = λ b h. and-lt 8 _ _ (sab b h) (s₃ b h) in
+      let high = both w n u bitAnd and-block refl (λ b. bitAnd (bitAnd (unlike b 32) (unlike b 10)) (unlike (bitAnd b 251) 9)) (λ _. 128) sabc (λ b h. lit< tt) abc top in
+      both w n u bitXor xor-block refl (λ b. bitAnd (bitAnd (bitAnd (unlike b 32) (unlike b 10)) (unlike (bitAnd b 251) 9)) 128) (λ _. 128) (small-and (λ b. bitAnd (bitAnd (unlike b 32) (unlike b 10)) (unlike (bitAnd b 251) 9)) 128 (lit< tt)) (λ b h. lit< tt) high top
+      ∙ ap (lanes 8) (map-same blank blankOf blank-is w u)
+
+-- ---- the same lanes are the same bytes
+pub lanes-same : (u v : List ℕ) → length u ≡ length v → Under 256 u → Under 256 v → lanes 8 u ≡ lanes 8 v → u ≡ v
+unfolding lanes
+lanes-same [] [] n a b e = refl
+lanes-same [] (c ∷ v) n a b e = absurd (omega (arith, n))
+lanes-same (c ∷ u) [] n a b e = absurd (omega (arith, n))
+lanes-same (c ∷ u) (d ∷ v) n a b e =
+    let first : c ≡ d = omega (arith, e, a .0, b .0) in
+    let rest : lanes 8 u ≡ lanes 8 v = omega (arith, e, first) in
+    ap₂ (λ x l. x ∷ l) first (lanes-same u v (omega (arith, n)) (a .1) (b .1) rest)
+
+abbrev off : Bool → ℕ
+off p = elim p [ true ↦ 0 | false ↦ 128 ]
+
+abbrev on : Bool → ℕ
+on p = elim p [ true ↦ 128 | false ↦ 0 ]
+
+abbrev noneOf : ℕ → ℕ
+noneOf b = off (isHex b)
+
+abbrev digitLane : ℕ → ℕ
+digitLane b = on (isHex b)
+
+none-small : (b : ℕ) → noneOf b < 256
+none-small b = either (λ (m : ℕ). m < 256) (isHex b) (λ _. lit< tt) (λ _. lit< tt)
+
+blank-small : (b : ℕ) → blankOf b < 256
+blank-small b = either (λ (m : ℕ). m < 256) (isBlank b) (λ _. lit< tt) (λ _. lit< tt)
+
+digit-small : (b : ℕ) → digitLane b < 256
+digit-small b = either (λ (m : ℕ). m < 256) (isHex b) (λ _. lit< tt) (λ _. lit< tt)
+
+under-map : (f : ℕ → ℕ) → ((b : ℕ) → f b < 256) → (w : List ℕ) → Under 256 (map f w)
+under-map f h [] = tt
+under-map f h (b ∷ w) = (h b, under-map f h w)
+
+alike : (p q : Bool) → off p ≡ on q → q ≡ not p
+alike true true e = absurd (omega (arith, e))
+alike true false e = refl
+alike false true e = refl
+alike false false e = absurd (omega (arith, e))
+
+plain-by : (w : List ℕ) → map noneOf w ≡ map blankOf w → Plain w
+plain-by [] e = tt
+plain-by (b ∷ w) e = (alike (isHex b) (isBlank b) (ap headOf e), plain-by w (ap restOf e))
+  where
+    headOf : List ℕ → ℕ
+    headOf [] = 0
+    headOf (c ∷ l) = c
+
+    restOf : List ℕ → List ℕ
+    restOf [] = []
+    restOf (c ∷ l) = l
+
+-- ---- words end at blanks behind digits
+abbrev shiftIn : ℕ → List ℕ → List ℕ
+shiftIn p [] = []
+shiftIn p (b ∷ w) = p ∷ shiftIn (digitLane b) w
+
+abbrev lastly : ℕ → List ℕ → ℕ
+lastly p [] = p
+lastly p (b ∷ w) = lastly (digitLane b) w
+
+abbrev ended : ℕ → List ℕ → List ℕ
+ended p [] = []
+ended p (b ∷ w) = bitAnd (noneOf b) p ∷ ended (digitLane b) w
+
+shifted-all : (p : ℕ) (w : List ℕ) → shiftIn p w ++ (lastly p w ∷ []) ≡ p ∷ map digitLane w
+shifted-all p [] = refl
+shifted-all p (b ∷ w) = ap (λ l. p ∷ l) (shifted-all (digitLane b) w)
+
+shifted-length : (p : ℕ) (w : List ℕ) → length (shiftIn p w) ≡ length w
+shifted-length p [] = refl
+shifted-length p (b ∷ w) = ap suc (shifted-length (digitLane b) w)
+
+shifted-under : (p : ℕ) (w : List ℕ) → p < 256 → Under 256 (shiftIn p w)
+shifted-under p [] h = tt
+shifted-under p (b ∷ w) h = (h, shifted-under (digitLane b) w (digit-small b))
+
+ended-in : (p : ℕ) (w : List ℕ) → p < 256 → bitAnd (lanes 8 (map noneOf w)) (lanes 8 (shiftIn p w)) ≡ lanes 8 (ended p w)
+unfolding lanes
+ended-in p [] h = refl
+ended-in p (b ∷ w) h =
+    and-block 8 (lanes 8 (map noneOf w)) (lanes 8 (shiftIn (digitLane b) w)) (noneOf b) p (none-small b) h
+    ∙ ap (λ (m : ℕ). m * 2 ^ 8 + bitAnd (noneOf b) p) (ended-in (digitLane b) w (digit-small b))
+
+one-end : (t : ℕ) → ones (bitAnd 128 (carryOf t)) ≡ one t
+unfolding ones
+one-end zero = refl
+one-end (suc t) = refl
+
+carry-small : (t : ℕ) → carryOf t < 256
+carry-small zero = lit< tt
+carry-small (suc t) = lit< tt
+
+abbrev pub chosen : Bool → ℕ → ℕ → ℕ
+chosen q a b = elim q [ true ↦ a | false ↦ b ]
+
+ended-step : (t : ℕ) (w : List ℕ) → ((k : ℕ) → ones (lanes 8 (ended (carryOf k) w)) ≡ ends k w) → (q : Bool)
+    → ones (lanes 8 (ended (on q) w) * 2 ^ 8 + bitAnd (off q) (carryOf t)) ≡ chosen q (ends (suc t) w) (one t + ends 0 w)
+unfolding ones
+ended-step t w ih true = ones-cat 8 (lanes 8 (ended 128 w)) 0 (lit< tt) ∙ (let z : ones (lanes 8 (ended 128 w)) + 0 ≡ ones (lanes 8 (ended 128 w)) = omega arith in z) ∙ ih (suc t)
+ended-step t w ih false =
+    ones-cat 8 (lanes 8 (ended 0 w)) (bitAnd 128 (carryOf t)) (lt-of-le-of-lt (and-le-l 128 (carryOf t)) (lit< tt))
+    ∙ omega (arith, ih 0, one-end t)
+
+ended-counted : (t : ℕ) (w : List ℕ) → ones (lanes 8 (ended (carryOf t) w)) ≡ ends t w
+unfolding lanes ones
+ended-counted t [] = refl
+ended-counted t (b ∷ w) = ended-step t w (λ k. ended-counted k w) (isHex b)
+
+digits-in : (w : List ℕ) → length w ≡ 8 → bitXor (lanes 8 (map noneOf w)) 0x8080808080808080 ≡ lanes 8 (map digitLane w)
+unfolding lanes
+digits-in w n = ap (λ (k : ℕ). bitXor (lanes 8 (map noneOf w)) (lanes 8 (replicate k 128))) (sym n) ∙ turned w
+  where
+    other : (p : Bool) → bitXor (off p) 128 ≡ on p
+    other true = refl
+    other false = refl
+
+    turned : (w : List ℕ) → bitXor (lanes 8 (map noneOf w)) (lanes 8 (replicate (length w) 128)) ≡ lanes 8 (map digitLane w)
+    turned [] = refl
+    turned (b ∷ w) =
+        xor-block 8 (lanes 8 (map noneOf w)) (lanes 8 (replicate (length w) 128)) (noneOf b) 128 (none-small b) (lit< tt)
+        ∙ ap₂ (λ (m k : ℕ). m * 2 ^ 8 + k) (turned w) (other (isHex b))
+
+-- the lanes one higher, and the carry
+raised : (w : List ℕ) (p : ℕ) → length w ≡ 8 → p < 256 → bitOr (lanes 8 (map digitLane w) * 2 ^ 8 % 2 ^ 64) p ≡ lanes 8 (shiftIn p w)
+unfolding lanes
+raised w p n h = ap (λ (m : ℕ). bitOr m p) up ∙ put w n
+  where
+    long : length (shiftIn 0 w) ≡ 8
+    long = shifted-length 0 w ∙ n
+
+    parts : lanes 8 (map digitLane w) * 2 ^ 8 ≡ lastly 0 w * 2 ^ 64 + lanes 8 (shiftIn 0 w)
+    parts =
+        let e = lanes-append 8 (shiftIn 0 w) (lastly 0 w ∷ []) in
+        let f : lanes 8 (shiftIn 0 w ++ (lastly 0 w ∷ [])) ≡ lanes 8 (0 ∷ map digitLane w) = ap (lanes 8) (shifted-all 0 w) in
+        let g : lanes 8 (lastly 0 w ∷ []) * 2 ^ (8 * length (shiftIn 0 w)) ≡ lanes 8 (lastly 0 w ∷ []) * 2 ^ 64 = ap (λ (k : ℕ). lanes 8 (lastly 0 w ∷ []) * 2 ^ (8 * k)) long in
+        omega (arith, e, f, g)
+
+    small : lanes 8 (shiftIn 0 w) < 2 ^ 64
+    small = subst (λ (k : ℕ). lanes 8 (shiftIn 0 w) < 2 ^ (8 * k)) long (lanes-lt 8 (shiftIn 0 w) (shifted-under 0 w (lit< tt)))
+
+    up : lanes 8 (map digitLane w) * 2 ^ 8 % 2 ^ 64 ≡ lanes 8 (shiftIn 0 w)
+    up = ap (λ (m : ℕ). m % 2 ^ 64) parts ∙ mul-add-mod-self-right (lastly 0 w) (2 ^ 64) (lanes 8 (shiftIn 0 w)) ∙ mod-eq-of-lt small
+
+    put : (v : List ℕ) → length v ≡ 8 → bitOr (lanes 8 (shiftIn 0 v)) p ≡ lanes 8 (shiftIn p v)
+    put [] m = absurd (omega (arith, m))
+    put (b ∷ v) m =
+        let r : ℕ = lanes 8 (shiftIn (digitLane b) v) in
+        let z : p ≡ 0 * 2 ^ 8 + p = omega arith in
+        ap (bitOr (r * 2 ^ 8 + 0)) z ∙ or-block 8 r 0 0 p (lit< tt) h ∙ ap (λ (k : ℕ). k * 2 ^ 8 + p) (or-zero-r r)
+
+pub words-are : (w : List ℕ) (t : ℕ) → length w ≡ 8 → wordsOf (lanes 8 (map noneOf w)) t ≡ ends t w
+words-are w t n =
+    ap (λ (d : ℕ). ones (bitAnd (lanes 8 (map noneOf w)) (bitOr (d * 2 ^ 8 % 2 ^ 64) (carryOf t)))) (digits-in w n)
+    ∙ ap (λ (d : ℕ). ones (bitAnd (lanes 8 (map noneOf w)) d)) (raised w (carryOf t) n (carry-small t))
+    ∙ ap ones (ended-in (carryOf t) w (carry-small t)) ∙ ended-counted t w
+
+-- ---- digits at the end
+leading-shift : (k a r : ℕ) → 0 < a → a < 2 ^ k → r < 2 ^ 8 → leadingZeros (8 + k) (a * 2 ^ 8 + r) ≡ leadingZeros k a
+leading-shift k a r o h l =
+    let t = leading-top k a o h in
+    let j : ℕ = t .0 in
+    let m : ℕ = suc j + 8 in
+    let p : 2 ^ m ≡ 2 ^ suc j * 2 ^ 8 = pow-add 2 (suc j) 8 in
+    let q : 2 ^ suc j ≡ 2 ^ j * 2 = pow-suc 2 j in
+    sym (leading-unique (8 + k) (a * 2 ^ 8 + r) (leadingZeros k a) m (omega (arith, t .1)) (omega (arith, p, t .3, l)) (omega (arith, p, q, t .2)))
+
+all-step : (w : List ℕ) (t : ℕ) → (lanes 8 (map noneOf w) ≡ 0 → tail (suc t) w ≡ suc t + length w) → (q : Bool)
+    → lanes 8 (map noneOf w) * 2 ^ 8 + off q ≡ 0 → chosen q (tail (suc t) w) (tail 0 w) ≡ t + suc (length w)
+all-step w t ih true z = ih (omega (arith, z)) ∙ omega arith
+all-step w t ih false z = absurd (omega (arith, z))
+
+all-digits : (w : List ℕ) (t : ℕ) → lanes 8 (map noneOf w) ≡ 0 → tail t w ≡ t + length w
+unfolding lanes
+all-digits [] t e = omega arith
+all-digits (b ∷ w) t e = all-step w t (all-digits w (suc t)) (isHex b) e
+
+off-small : (q : Bool) → off q < 2 ^ 8
+off-small true = lit< tt
+off-small false = lit< tt
+
+abbrev nones : List ℕ → ℕ
+nones w = lanes 8 (map noneOf w)
+
+module _ (w : List ℕ) (t : ℕ) where
+  size : 8 * suc (length w) ≡ 8 + 8 * length w
+  size = omega arith
+
+  less : nones w < 2 ^ (8 * length w)
+  less = subst (λ (k : ℕ). nones w < 2 ^ (8 * k)) (length-map w noneOf) (lanes-lt 8 (map noneOf w) (under-map noneOf none-small w))
+
+  -- a blank stands further on
+  higher : 0 < nones w → ((k : ℕ) → leadingZeros (8 * length w) (nones w) ≡ 8 * tail k w) → (q : Bool)
+      → leadingZeros (8 * suc (length w)) (nones w * 2 ^ 8 + off q) ≡ 8 * chosen q (tail (suc t) w) (tail 0 w)
+  higher l ih q =
+      ap (λ (k : ℕ). leadingZeros k (nones w * 2 ^ 8 + off q)) size ∙ leading-shift (8 * length w) (nones w) (off q) l less (off-small q) ∙ behind q
+    where
+      behind : (q : Bool) → leadingZeros (8 * length w) (nones w) ≡ 8 * chosen q (tail (suc t) w) (tail 0 w)
+      behind true = ih (suc t)
+      behind false = ih 0
+
+  -- this is the last one
+  lowest : nones w ≡ 0 → (q : Bool) → 0 < nones w * 2 ^ 8 + off q → leadingZeros (8 * suc (length w)) (nones w * 2 ^ 8 + off q) ≡ 8 * chosen q (tail (suc t) w) (tail 0 w)
+  lowest z true o = absurd (omega (arith, z, o))
+  lowest z false o =
+      let e : nones w * 2 ^ 8 + 128 ≡ 128 = omega (arith, z) in
+      ap (leadingZeros (8 * suc (length w))) e
+      ∙ sym (leading-unique (8 * suc (length w)) 128 (8 * length w) 8 (omega arith) (lit< tt) (lit≤ tt))
+      ∙ omega (arith, all-digits w 0 z)
+
+pub tail-is : (w : List ℕ) (t : ℕ) → 0 < nones w → leadingZeros (8 * length w) (nones w) ≡ 8 * tail t w
+unfolding lanes
+tail-is [] t h = absurd (omega (arith, h))
+tail-is (b ∷ w) t h =
+    split (ltb 0 (nones w))
+    (λ p. let l = ltb-true 0 (nones w) p in higher w t l (λ k. tail-is w k l) (isHex b))
+    (λ p. let z : nones w ≡ 0 = omega (arith, ltb-false 0 (nones w) p) in lowest w t z (isHex b) h)
+
+-- ---- no more than 8 digits one behind the other
+abbrev pub Chosen : Bool → Type 0 → Type 0 → Type 0
+Chosen q a b = elim q [ true ↦ a | false ↦ b ]
+
+fair-step : (w : List ℕ) (t : ℕ) → ((k : ℕ) → k + length w ≤ 8 → Fair k w) → t + suc (length w) ≤ 8 → (q : Bool) → Chosen q ((suc t ≤ 8) × Fair (suc t) w) (Fair 0 w)
+fair-step w t ih h true = (omega (arith, h), ih (suc t) (omega (arith, h)))
+fair-step w t ih h false = ih 0 (omega (arith, h))
+
+fair-short : (w : List ℕ) (t : ℕ) → t + length w ≤ 8 → Fair t w
+fair-short [] t h = tt
+fair-short (b ∷ w) t h = fair-step w t (λ k l. fair-short w k l) h (isHex b)
+
+counted-least : (w : List ℕ) (v n : ℕ) → n ≤ digitsIn 16 v n w .count
+unfolding digitsIn
+counted-least [] v n = omega arith
+counted-least (b ∷ w) v n = either (λ (d : Digits). n ≤ d .count) (isHex b) (λ _. omega (arith, counted-least w (v * 16 + digitOf b) (suc n))) (λ _. omega arith)
+
+pub fair-lead : (w : List ℕ) (t v n : ℕ) → length w ≤ 8 → t + digitsIn 16 v n w .count ≤ 8 + n → Fair t w
+unfolding digitsIn
+fair-lead [] t v n l h = tt
+fair-lead (b ∷ w) t v n l h =
+    split (isHex b)
+    (λ p. let e : digitsIn 16 v n (b ∷ w) .count ≡ digitsIn 16 (v * 16 + digitOf b) (suc n) w .count = rw (p, digitsIn) refl in
+    subst (λ (q : Bool). Chosen q ((suc t ≤ 8) × Fair (suc t) w) (Fair 0 w)) (sym p)
+    (omega (arith, h, e, counted-least w (v * 16 + digitOf b) (suc n)), fair-lead w (suc t) (v * 16 + digitOf b) (suc n) (omega (arith, l)) (omega (arith, h, e))))
+    (λ p. subst (λ (q : Bool). Chosen q ((suc t ≤ 8) × Fair (suc t) w) (Fair 0 w)) (sym p) (fair-short w 0 (omega (arith, l))))
+
+ends-step : (w : List ℕ) (t : ℕ) → ((k : ℕ) → ends k w ≤ length w) → (q : Bool) → chosen q (ends (suc t) w) (one t + ends 0 w) ≤ suc (length w)
+ends-step w t ih true = omega (arith, ih (suc t))
+ends-step w zero ih false = omega (arith, ih 0)
+ends-step w (suc t) ih false = omega (arith, ih 0)
+
+pub ends-few : (w : List ℕ) (t : ℕ) → ends t w ≤ length w
+ends-few [] t = zero-le
+ends-few (b ∷ w) t = ends-step w t (λ k. ends-few w k) (isHex b)
+
+-- ---- all of it
+module _ (x t none : ℕ) (e : none ≡ marksOf true x) (same-lanes : none ≡ blanksOf x) (some : none ≡ 0 → ⊥) (reach : t + trailingZeros 64 none / 8 ≤ 8) where
+  pub block-read : (k : ℕ) → k ≡ wordsOf none t → (w : List ℕ) → Laned w x → length w ≡ 8 → Read t w k (leadingZeros 64 none / 8)
+  block-read k f w l n =
+      let m : none ≡ nones w = e ∙ ap (marksOf true) (l .same) ∙ marks-in w n (l .bytes) true in
+      let b : nones w ≡ lanes 8 (map blankOf w) = sym m ∙ same-lanes ∙ ap blanksOf (l .same) ∙ blanks-in w n (l .bytes) in
+      let maps : map noneOf w ≡ map blankOf w = lanes-same (map noneOf w) (map blankOf w) (length-map w noneOf ∙ sym (length-map w blankOf)) (under-map noneOf none-small w) (under-map blankOf blank-small w) b in
+      let count : trailingZeros 64 none / 8 ≡ digitsIn 16 0 0 w .count = ap (λ (k : ℕ). trailingZeros 64 k / 8) e ∙ gathered-count true x w l (omega (arith, n)) in
+      let size : 8 * length w ≡ 64 = omega (arith, n) in
+      let top : leadingZeros 64 none ≡ 8 * tail t w = ap₂ leadingZeros (sym size) m ∙ tail-is w t (omega (arith, m, some)) in
+      record {
+        plain = plain-by w maps;
+        fair = fair-lead w t 0 0 (omega (arith, n)) (omega (arith, count, reach));
+        words = f ∙ ap (λ (k : ℕ). wordsOf k t) m ∙ words-are w t n;
+        last = omega (arith, top);
+      }
+
+pub carry-none : (t : ℕ) → t ≡ 0 → 0 ≡ carryOf t
+carry-none t e = ap carryOf (sym e)
+
+pub carry-some : (t : ℕ) → (t ≡ 0 → ⊥) → 128 ≡ carryOf t
+carry-some zero h = absurd (h refl)
+carry-some (suc t) h = refl
+
+tail-step : (w : List ℕ) (t : ℕ) → ((k : ℕ) → k ≤ 8 → Fair k w → tail k w ≤ 8) → (q : Bool) → Chosen q ((suc t ≤ 8) × Fair (suc t) w) (Fair 0 w) → chosen q (tail (suc t) w) (tail 0 w) ≤ 8
+tail-step w t ih true f = ih (suc t) (f .0) (f .1)
+tail-step w t ih false f = ih 0 zero-le f
+
+pub tail-few : (w : List ℕ) (t : ℕ) → t ≤ 8 → Fair t w → tail t w ≤ 8
+tail-few [] t h f = h
+tail-few (b ∷ w) t h f = tail-step w t (λ k l g. tail-few w k l g) (isHex b) f

@@ -1,0 +1,30 @@
+use lib.Bits.{bitAnd, bitXor}
+use Prim.Native.Nat.{ℕ}
+use mathlib.Core.Path.{ap, ap₂}
+use borrow.Author.Needs.{needs}
+use native.Mathlib.Omega.{arith}
+use borrow.Author.Needs.{needs}
+use Rattle.bodies.proofs.blocks.blanks.Statement.{statement}
+use Rattle.bodies.proofs.blocks.blanks.Tie as tie
+use Rattle.bodies.proofs.blocks.blanks.Reads as reads
+use Rattle.bodies.proofs.blocks.blanks.Lts as lts
+use Rattle.bodies.proofs.blocks.unlike.Reads as unlike-reads
+
+-- src/blocks.rt:28:9
+unlike-requires : tie.Need-unlike-requires
+unlike-requires c κs = search needs
+
+-- src/blocks.rt:29:9
+unlike-requires-2 : tie.Need-unlike-requires-2
+unlike-requires-2 c κs = search needs
+
+-- src/blocks.rt:31:9
+unlike-requires-3 : tie.Need-unlike-requires-3
+unlike-requires-3 c κs = search needs
+
+-- src/blocks.rt:25:1
+returns : tie.Need-returns
+returns c = (λ i. bitXor (bitAnd (bitAnd (bitAnd (c .before .before .unlike .ensures i) (c .before .unlike2 .ensures i)) (c .unlike3 .ensures i)) 0x8080808080808080) 0x8080808080808080)
+
+pub blanks-spec : {M : Type 1} → statement M
+blanks-spec = tie.close (tie.spec unlike-requires unlike-requires-2 unlike-requires-3 returns)

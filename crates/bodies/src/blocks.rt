@@ -1,0 +1,134 @@
+// Hexadecimal words in blocks of eight bytes: where nothing but digits and blanks stands, words are counted by their ends.
+ghost use mathlib.Core.Path.{_≡_};
+ghost use Prim.Native.Nat.{_≤_};
+ghost use Rattle.bodies.specs.Blocks.{unlikeOf, blanksOf, carryOf, wordsOf, BlockIs, goesFor, Gone};
+
+// The highest bit of each lane.
+const HIGHS: u64 = 0x8080808080808080;
+
+// A block of digits and blanks: how many words end in it, and how many digits stand at its end.
+pub enum Block {
+    Is { words: u32, tail: u32 },
+    Not,
+}
+
+// The place behind the words so far, and how many are left.
+pub struct Rest {
+    pub next: usize,
+    pub left: usize,
+}
+
+fn unlike(x: u64, c: u64) -> u64
+    ensures { λ r. ⌜ r ≡ unlikeOf x c ⌝ }
+{
+    let y = x ^ c;
+    let low = y & 0x7f7f7f7f7f7f7f7f;
+    let sum = low + 0x7f7f7f7f7f7f7f7f;
+    sum | y
+}
+
+// 9 and 13 differ in one bit.
+fn blanks(x: u64) -> u64
+    ensures { λ r. ⌜ r ≡ blanksOf x ⌝ }
+{
+    let space = unlike(x, 0x2020202020202020);
+    let line = unlike(x, 0x0a0a0a0a0a0a0a0a);
+    let masked = x & 0xfbfbfbfbfbfbfbfb;
+    let others = unlike(masked, 0x0909090909090909);
+    let both = space & line;
+    let all = both & others;
+    let high = all & HIGHS;
+    high ^ HIGHS
+}
+
+// The highest bit of the lowest lane, where digits stand before the block.
+fn carry_of(tail: u32) -> u64
+    ensures { λ r. ⌜ r ≡ carryOf tail ⌝ }
+{
+    if tail == 0 { 0 } else { 128 }
+}
+
+// How many words end: a blank stands behind a digit.
+fn words_in(none: u64, tail: u32) -> u32
+    ensures { λ r. ⌜ r ≡ wordsOf none tail ⌝ }
+{
+    let digits = none ^ HIGHS;
+    let up = digits << 8;
+    let carry = carry_of(tail);
+    let before = up | carry;
+    let ends = none & before;
+    u64::count_ones(ends)
+}
+
+// The next eight bytes, where `tail` digits stand before them.
+fn block_of(x: u64, tail: u32) -> Block
+    requires { ⌜ tail ≤ 8 ⌝ }
+    ensures { λ r. ⌜ BlockIs x tail r ⌝ }
+{
+    let none = numbers::marks(x, true);
+    let blank = blanks(x);
+    if none == blank {
+        if none == 0 {
+            return Block::Not;
+        }
+        let first = u64::trailing_zeros(none);
+        let lead = first / 8;
+        let reach = tail + lead;
+        if 8 < reach {
+            return Block::Not;
+        }
+        let words = words_in(none, tail);
+        let last = u64::leading_zeros(none);
+        let behind = last / 8;
+        return Block::Is {
+            words,
+            tail: behind,
+        };
+    }
+    Block::Not
+}
+
+fn goes_for(left: usize, c: usize, size: usize) -> bool
+    ensures { λ r. ⌜ r ≡ goesFor left c size ⌝ }
+{
+    if left < 8 {
+        return false;
+    }
+    if size < 8 {
+        return false;
+    }
+    let last = size - 8;
+    c <= last
+}
+
+// As many of n words as can be read in blocks; the others are left.
+pub(crate) fn blocks_past(s: &[u8], at: usize, n: usize) -> Rest
+    ensures { λ r. ⌜ Gone (now (s .entry)) at n r ⌝ }
+{
+    let mut c = at;
+    let mut tail: u32 = 0;
+    let mut left = n;
+    let size = s.len();
+    while goes_for(left, c, size) {
+        let x = numbers::bytes_at(s, c);
+        match block_of(x, tail) {
+            Block::Not => {
+                let back = tail as usize;
+                let next = c - back;
+                return Rest { next, left };
+            }
+            Block::Is {
+                words,
+                tail: behind,
+            } => {
+                let count = words as usize;
+                left -= count;
+                tail = behind;
+                c += 8;
+            }
+        }
+    }
+    let back = tail as usize;
+    let next = c - back;
+    Rest { next, left }
+}

@@ -1,0 +1,40 @@
+-- [01:Tokens], coordinates: one that is good whatever it says, known by its shape alone, executable. Assumes nothing.
+-- proofs/Harmless shows that such a one is kept.
+use Prim.Native.Nat.{ℕ, _+_, _-_}
+use mathlib.Core.List.{List, [], _∷_}
+use mathlib.Core.Bool.{Bool, true, false, _&&_}
+use lib.ListN.{length, drop}
+use lib.Dec.{leb}
+use Rattle.sizes.specs.Sizes.{coordinateBytes, coordinateDigits}
+use Rattle.numbers.specs.declared.mild.Mild.{Mild}
+use Rattle.numbers.specs.Whole.{within, digitsIn}
+use Rattle.numbers.specs.Coordinate.{isMark, frontOf, backOf}
+use Rattle.numbers.specs.Lead.{powerIn, leadOf}
+use Rattle.numbers.specs.Parts.{starts}
+
+-- "at least one digit", and "at most 18" with the zeros that would be dropped
+abbrev pub fewDigits : List ℕ → Bool
+fewDigits w = within 1 coordinateDigits (frontOf w .count + backOf w .count)
+
+-- "optionally `e` or `E`, an optional sign and 1 to 3 digits", here at most 2
+unfoldable pub smallPower : List ℕ → Bool
+smallPower [] = true
+smallPower (b ∷ w) = elim (isMark b) [ true ↦ within 1 2 (frontOf w .count) | false ↦ true ]
+
+-- the place behind such a coordinate at the start of some bytes, whatever follows it
+unfoldable pub mildOf : List ℕ → Mild
+mildOf w =
+    elim (leb (length w) coordinateBytes && (fewDigits w && smallPower (backOf w .rest))) [ true ↦ Mild.To (leadOf w .next) | false ↦ Mild.Not ]
+
+-- ---- what the functions inside owe one another
+-- the place behind the decimal digits from `at` on
+unfoldable pub behindOf : List ℕ → ℕ → ℕ
+behindOf w at = at + digitsIn 10 0 0 (drop at w) .count
+
+-- the place behind a point, where one stands there
+unfoldable pub pointOf : List ℕ → ℕ → ℕ
+pointOf w at = elim (starts 46 (drop at w)) [ true ↦ at + 1 | false ↦ at ]
+
+-- the place behind a small power, at the start of the last of the bytes
+unfoldable pub tensTo : List ℕ → List ℕ → Mild
+tensTo w l = elim (smallPower l) [ true ↦ Mild.To (length w - length (powerIn l .rest)) | false ↦ Mild.Not ]

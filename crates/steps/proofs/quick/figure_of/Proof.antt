@@ -1,0 +1,26 @@
+use Rattle.steps.proofs.Single.{figure-low, figure-high, figure-is}
+use borrow.Author.Needs.{needs}
+use native.Mathlib.Omega.{arith}
+use Rattle.steps.proofs.quick.figure_of.Statement.{statement}
+use Rattle.steps.proofs.quick.figure_of.Tie as tie
+use Rattle.steps.proofs.quick.figure_of.Reads as reads
+use Rattle.steps.proofs.quick.figure_of.Lts as lts
+
+-- src/quick.rt:118:9
+returns : tie.Need-returns
+returns c = figure-low _ _ (c .if1 .taken)
+
+-- src/quick.rt:121:9
+returns-2 : tie.Need-returns-2
+returns-2 c = figure-high _ _ (c .before .if1 .left) (c .if2 .taken)
+
+-- src/quick.rt:124:17
+cast-value : tie.Need-cast-value
+cast-value c = search needs
+
+-- src/quick.rt:114:1
+returns-3 : tie.Need-returns-3
+returns-3 c = figure-is _ _ (c .before .if1 .left) (c .if2 .left)
+
+pub figure-of-spec : {M : Type 1} → statement M
+figure-of-spec = tie.close (tie.spec returns returns-2 cast-value returns-3)
