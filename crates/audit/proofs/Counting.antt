@@ -1,14 +1,16 @@
 -- The sides of each cell: what one more does to each count, and what the pass over the faces holds. Assumes nothing.
+-- the three ways of one more
 use Prim.Native.Nat.{ℕ, _+_, _-_, _*_, _<_, _≤_}
 use native.Mathlib.Omega.{arith}
 use mathlib.Core.Path.{_≡_, refl, sym, ap, _∙_}
-use mathlib.Core.Bool.{true}
+use mathlib.Core.Bool.{Bool, true, false, _&&_}
 use mathlib.Core.List.{List, _++_}
-use borrow.Author.Tests.{eqb-true, eqb-false, ltb-true, ltb-false, ne-eqb, eq-eqb, lt-ltb, le-ltb}
-use lib.Dec.{eqb, ltb}
+use borrow.Author.Tests.{eqb-true, eqb-false, ltb-true, ltb-false, ne-eqb, eq-eqb, lt-ltb, le-ltb, leb-true, le-leb}
+use lib.Dec.{eqb, ltb, leb}
 use lib.ListN.{length, getD, set, drop, replicate, length-set, length-append, length-replicate, getD-replicate, List·getD-append}
 use lib.Seq.{getD-set-same, getD-set-other, ext-getD, getD-append-add, drop-set-lt, drop-at, getD-drop}
-use Rattle.facts.proofs.Branch.{split}
+use Rattle.facts.proofs.Branch.{split, differ}
+use Rattle.facts.proofs.Decides.{and-split, and-join}
 use Rattle.mesh.specs.declared.Face.{Face}
 use Rattle.mesh.specs.Rows.{faceAt}
 use Rattle.faults.specs.Over.{listed}
@@ -17,7 +19,6 @@ use Rattle.faults.proofs.Sides.{one-most, sidesNaming-is, countOver-most}
 use Rattle.faults.proofs.Over.{sumOver-more, sumOver-none, listed-length, listed-at}
 use Rattle.audit.specs.Steps.{bump, Tallying}
 
--- the three ways of one more
 module _ (n x : ℕ) (l : List ℕ) where
   pub bump-zero : x ≡ 0 → l ≡ bump n x l
   unfolding bump
@@ -30,6 +31,24 @@ module _ (n x : ℕ) (l : List ℕ) where
   pub bump-cell : (x ≡ 0 → ⊥) → x ≤ n → set l (x - 1) (getD l (x - 1) 0 + 1) ≡ bump n x l
   unfolding bump
   bump-cell e h = rw (ne-eqb x 0 e, le-ltb n x h, bump)
+
+  abbrev isCell : Bool
+  isCell = leb 1 x && leb x n
+
+  pub cell-within : isCell ≡ true → (1 ≤ x) × (x ≤ n)
+  cell-within t = let s = and-split (leb 1 x) (leb x n) t in (leb-true 1 x (s .0), leb-true x n (s .1))
+
+  pub bump-there : isCell ≡ true → set l (x - 1) (getD l (x - 1) 0 + 1) ≡ bump n x l
+  bump-there t = let w = cell-within t in bump-cell (λ z. omega (arith, w .0)) (w .1)
+
+  pub bump-none : isCell ≡ false → l ≡ bump n x l
+  bump-none t =
+      split (eqb x 0)
+      (λ u. bump-zero (eqb-true x 0 u))
+      (λ u. let d = eqb-false x 0 u in
+      split (ltb n x)
+      (λ v. bump-above d (ltb-true n x v))
+      (λ v. differ isCell (and-join (le-leb 1 x (omega arith)) (le-leb x n (ltb-false n x v))) t))
 
   -- something of the bumped list, by the three ways
   by-way : (P : List ℕ → Type 0) → (x ≡ 0 → P l) → (n < x → P l) → ((x ≡ 0 → ⊥) → x ≤ n → P (set l (x - 1) (getD l (x - 1) 0 + 1))) → P (bump n x l)
@@ -64,6 +83,20 @@ module _ (n x : ℕ) (l : List ℕ) where
 
       other : (x ≡ 0 → ⊥) → i ≡ x - 1 → x ≡ i + 1
       other e z = omega arith
+
+-- both sides of a face, by whether they are cells
+module _ (n r l : ℕ) (first : List ℕ) where
+  pub both-bumped : {mid last : List ℕ} → (leb 1 r && leb r n) ≡ true → (leb 1 l && leb l n) ≡ true
+      → mid ≡ set first (r - 1) (getD first (r - 1) 0 + 1) → last ≡ set mid (l - 1) (getD mid (l - 1) 0 + 1)
+      → last ≡ bump n l (bump n r first)
+  both-bumped {mid} p q e f = f ∙ bump-there n l mid q ∙ ap (bump n l) (e ∙ bump-there n r first p)
+
+  pub right-bumped : {mid : List ℕ} → (leb 1 r && leb r n) ≡ true → (leb 1 l && leb l n) ≡ false
+      → mid ≡ set first (r - 1) (getD first (r - 1) 0 + 1) → mid ≡ bump n l (bump n r first)
+  right-bumped {mid} p q e = bump-none n l mid q ∙ ap (bump n l) (e ∙ bump-there n r first p)
+
+  pub left-bumped : {last : List ℕ} → (leb 1 r && leb r n) ≡ false → last ≡ bump n l first → last ≡ bump n l (bump n r first)
+  left-bumped p e = e ∙ ap (bump n l) (bump-none n r first p)
 
 pub bumped-small : (cells x b : ℕ) (counts next : List ℕ) → cells ≤ length counts → next ≡ bump cells x counts
     → ((i : ℕ) → i < cells → getD counts i 0 ≤ b) → (i : ℕ) → i < cells → getD next i 0 ≤ b + 1

@@ -1,7 +1,8 @@
 -- Every fault of tables within the limits has room in its record, so its bytes give it back. Assumes nothing.
-use Prim.Native.Nat.{ℕ, zero, suc, _+_, _*_, _^_, _≤_, _<_}
+-- a position has its byte, and a kind without one is looked for at 0 alone
+use Prim.Native.Nat.{ℕ, zero, suc, _*_, _^_, _≤_, _<_}
 use native.Mathlib.Omega.{arith}
-use mathlib.Core.Path.{_≡_, refl}
+use mathlib.Core.Path.{_≡_}
 use mathlib.Core.Logic.{⊎-elim}
 use mathlib.Core.List.{List, _++_, List·Memᴰ, List·Memᴰ·append-cases}
 use borrow.Author.Tests.{eqb-true, eqb-false}
@@ -15,18 +16,17 @@ use Rattle.records.specs.Record.{narrow, extraBytes, recordOf, Held, readBack}
 use Rattle.records.proofs.Record.{recordOf-back, narrow-index, narrow-count}
 use Rattle.faults.specs.Faults.{positionsOf, cellExtra}
 use Rattle.faults.specs.Sides.{Tables, faceIn, countOf}
+use Rattle.faults.proofs.Any.{few-positions}
 use Rattle.faults.proofs.Sides.{countOver-most}
 use Rattle.audit.specs.All.{allFaults}
-use Rattle.audit.proofs.Loop.{positions-few}
 use Rattle.audit.proofs.Faults.{ofFaces, of-faces, of-cells}
 
--- a position has its byte, and a kind without one is looked for at 0 alone
 face-extra : (face : Face) (k p : ℕ) → 1 ≤ k → k ≤ 7 → p < positionsOf places face k → p < 256 ^ extraBytes narrow k
 unfolding positionsOf extraBytes
 face-extra face zero p l u h = absurd (omega arith)
 face-extra face (suc zero) p l u h = h
-face-extra face (suc (suc zero)) p l u h = omega (arith, positions-few places face 2 (lit≤ tt) refl)
-face-extra face (suc (suc (suc zero))) p l u h = omega (arith, positions-few places face 3 (lit≤ tt) refl)
+face-extra face (suc (suc zero)) p l u h = omega (arith, few-positions places face 2 (lit≤ tt))
+face-extra face (suc (suc (suc zero))) p l u h = omega (arith, few-positions places face 3 (lit≤ tt))
 face-extra face (suc (suc (suc (suc zero)))) p l u h = omega arith
 face-extra face (suc (suc (suc (suc (suc zero))))) p l u h = h
 face-extra face (suc (suc (suc (suc (suc (suc zero)))))) p l u h = h

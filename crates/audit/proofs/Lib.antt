@@ -1,5 +1,6 @@
 mod Loop
 mod Counting
+mod Listing
 mod Whole
 pub mod Faults
 pub mod Shown

@@ -2,12 +2,9 @@
 use Prim.Native.Nat.{ℕ, _-_, _+_, _≤_, _<_}
 use native.Mathlib.Omega.{arith}
 use mathlib.Core.Path.{_≡_, refl, sym, ap, _∙_}
-use mathlib.Core.Bool.{Bool, true, false, _&&_}
+use mathlib.Core.Bool.{Bool, true, false}
 use mathlib.Core.List.{List, [], _++_}
-use lib.Dec.{leb, eqb}
 use lib.ListN.{length, getD, length-append}
-use Rattle.facts.proofs.Branch.{either}
-use Rattle.facts.proofs.Decides.{and-is, le-is}
 use Rattle.mesh.specs.Rows.{faceAt, cellAt}
 use Rattle.audit.specs.All.{faceFaults, cellFaults}
 use Rattle.records.specs.declared.Fault.{Fault}
@@ -19,7 +16,7 @@ use Rattle.faults.specs.Over.{each}
 use Rattle.mesh.specs.declared.Face.{Face}
 use Rattle.mesh.specs.declared.Cell.{Cell}
 use Rattle.faults.specs.declared.Frame.{Frame}
-use Rattle.faults.specs.Faults.{lookedAt, positionsOf, faultsOfFace, faultsOfCell, hasFault, faultIf, faultAt, hasCellFault, cellExtra, cellFaultAt, anyFault}
+use Rattle.faults.specs.Faults.{faultsOfFace, faultsOfCell, faultIf, hasCellFault, cellExtra, cellFaultAt, anyFault}
 use Rattle.faults.proofs.Any.{face-empty}
 use Rattle.faults.proofs.Over.{each-more, each-none}
 use Rattle.audit.specs.declared.Stand.{Stand}
@@ -57,12 +54,14 @@ module _ {old : List ℕ} {s₀ : Stand} {whole : List Fault} {c : ℕ} {list : 
   pub skip : {rest more : List Fault} → rest ≡ more → Lays old s₀ rest whole c list s → Lays old s₀ more whole c list s
   skip e l = rw (← e) l
 
-  pub done : (g : ℕ → List Fault) (i a b c′ : ℕ) → b ≤ a → c ≤ c′ → Lays old s₀ (each g i (b - a)) whole c list s → Visited old s₀ whole c′ list s
+  pub ended : {rest : List Fault} (c′ : ℕ) → rest ≡ [] → c ≤ c′ → Lays old s₀ rest whole c list s → Visited old s₀ whole c′ list s
   unfolding run
-  done g i a b c′ h more l =
-      let e = each-none g i a b h in
+  ended c′ e more l =
       let k : s .total ≡ s₀ .total + length whole = omega (arith, ap length e, l .counted) in
       record { ran = rw e at (l .ran); counted = k; few = omega (arith, k, l .few) }
+
+  pub done : (g : ℕ → List Fault) (i a b c′ : ℕ) → b ≤ a → c ≤ c′ → Lays old s₀ (each g i (b - a)) whole c list s → Visited old s₀ whole c′ list s
+  done g i a b c′ h more l = ended c′ (each-none g i a b h) more l
 
 -- one fault that is there, or is not
 module _ (b : Bool) (f : Fault) (old : List ℕ) (s : Stand) where
@@ -75,17 +74,7 @@ module _ (b : Bool) (f : Fault) (old : List ℕ) (s : Stand) where
   unfolding run
   visited-none h = rw h (record { ran = refl; counted = omega arith; few = omega arith })
 
--- one kind at one position of a face, one kind at a cell
-module _ (n : ℕ) (frame : Frame) (i : ℕ) (face : Face) (k p : ℕ) (old : List ℕ) (s : Stand) where
-  pub face-found : {new : List ℕ} {pen : Pen} → hasFault n frame face k p ≡ true → laid new pen ≡ step narrow (laid old (s .pen)) (fault k i p)
-      → Visited old s (faultAt n frame i face k p) 1 new (record { pen = pen; total = s .total + 1 })
-  unfolding faultAt
-  face-found h e = visited-one (hasFault n frame face k p) (fault k i p) old s _ _ h e
-
-  pub face-clear : hasFault n frame face k p ≡ false → Visited old s (faultAt n frame i face k p) 1 old s
-  unfolding faultAt
-  face-clear h = visited-none (hasFault n frame face k p) (fault k i p) old s h
-
+-- one kind at a cell
 module _ (frame : Frame) (i : ℕ) (cell : Cell) (count k : ℕ) (old : List ℕ) (s : Stand) where
   pub cell-found : {new : List ℕ} {pen : Pen} (e : ℕ) → hasCellFault frame cell count k ≡ true → e ≡ cellExtra count k
       → laid new pen ≡ step narrow (laid old (s .pen)) (fault k i e)
@@ -96,14 +85,6 @@ module _ (frame : Frame) (i : ℕ) (cell : Cell) (count k : ℕ) (old : List ℕ
   pub cell-clear : hasCellFault frame cell count k ≡ false → Visited old s (cellFaultAt frame i cell count k) 1 old s
   unfolding cellFaultAt
   cell-clear h = visited-none (hasCellFault frame cell count k) (fault k i (cellExtra count k)) old s h
-
--- no kind looks at more positions than there are places
-positionsOf-most : (n : ℕ) (face : Face) (k : ℕ) → 2 ≤ n → positionsOf n face k ≤ n
-unfolding positionsOf lookedAt
-positionsOf-most n face k h =
-    either (λ (m : ℕ). m ≤ n) (leb 2 k && leb k 3)
-    (λ _. either (λ (m : ℕ). m ≤ n) (leb 2 (face .count) && leb (face .count) n) (λ t. and-is (le-is 2 (face .count)) (le-is (face .count) n) .0 t .1) (λ _. omega arith))
-    (λ _. either (λ (m : ℕ). m ≤ n) (eqb k 4) (λ _. h) (λ _. omega arith))
 
 -- a face without any fault adds nothing to the list: what is left to lay is what the faces behind it have
 pub face-quiet : (n : ℕ) (frame : Frame) (rows : List ℕ) (f faces : ℕ) (face : Face) → f < faces → face ≡ faceAt n rows f → anyFault n frame face ≡ false
@@ -122,6 +103,3 @@ pub cell-visited : (frame : Frame) (rows counts : List ℕ) (c : ℕ) (cell : Ce
     → Visited old s (faultsOfCell frame (c + 1) cell (getD counts c 0)) d new r
     → Visited old s (cellFaults frame rows (λ i. getD counts (i - 1) 0) (c + 1)) d new r
 cell-visited frame rows counts c cell e v = let z : c + 1 - 1 ≡ c = omega arith in rw (z, ← e) v
-
-pub positions-few : (n : ℕ) (face : Face) (k : ℕ) {r : ℕ} → 2 ≤ n → r ≡ positionsOf n face k → r ≤ n
-positions-few n face k h e = rw e (positionsOf-most n face k h)

@@ -42,14 +42,14 @@ module _ (n : ℕ) (t : Tables) (counts list : List ℕ) where
   unfolding auditOf
   accepted d f c = rw (d, f, le-leb (t .cells) (length counts) c, auditOf)
 
--- totals that fit are within the limit, and the faces within the rows lent
+-- totals that fit are within the limit, and faces and cells within the rows lent
 pub totals-within : (n nodes faces cells : ℕ) (fr cr : List ℕ) → totalsFit n nodes faces cells fr cr ≡ true
-    → (faces ≤ rows) × (cells ≤ rows) × (faces ≤ rowsIn (faceWords n) fr)
+    → (faces ≤ rows) × (cells ≤ rows) × (faces ≤ rowsIn (faceWords n) fr) × (cells ≤ rowsIn cellWords cr)
 unfolding totalsFit
 totals-within n nodes faces cells fr cr h =
     let lent = and-is (le-is faces (rowsIn (faceWords n) fr)) (le-is cells (rowsIn cellWords cr)) in
     let s = and-is (le-is nodes rows) (and-is (le-is faces rows) (and-is (le-is cells rows) lent)) .0 h in
-    (s .1 .0, s .1 .1 .0, s .1 .1 .1 .0)
+    (s .1 .0, s .1 .1 .0, s .1 .1 .1 .0, s .1 .1 .1 .1)
 
 module _ (t : Tables) (counts list last : List ℕ) where
   -- the counts that the pass over the faces leaves are the cells' counts

@@ -2,10 +2,11 @@
 use Prim.Native.Nat.{ℕ, _+_, _-_, _*_, _≤_, _<_}
 use mathlib.Core.Path.{_≡_}
 use mathlib.Core.List.{List, _++_}
-use mathlib.Core.Bool.{true, false}
+use mathlib.Core.Bool.{Bool, true, false}
 use lib.Dec.{eqb, ltb}
 use lib.ListN.{length, drop, getD, set}
 use Rattle.mesh.specs.Rows.{places, faceAt}
+use Rattle.mesh.specs.declared.Face.{Face}
 use Rattle.records.specs.declared.Fault.{Fault}
 use Rattle.records.specs.Record.{narrow}
 use Rattle.records.specs.Laid.{penAt, laid, run}
@@ -28,6 +29,11 @@ pub record Visited (old : List ℕ) (s : Stand) (fs : List Fault) (n : ℕ) (new
   pub ran : laid new (r .pen) ≡ run narrow (laid old (s .pen)) fs
   pub counted : r .total ≡ s .total + length fs
   pub few : length fs ≤ n
+
+-- both sides of a face were counted, and a test of it answered
+pub record Tallied (test : Frame → Face → Bool) (frame : Frame) (face : Face) (first last : List ℕ) (r : Bool) : Type 0 where
+  pub counts : last ≡ bump (frame .cells) (face .left) (bump (frame .cells) (face .right) first)
+  pub answer : r ≡ test frame face
 
 -- the counts of the cells while faces are gone through, behind the first f of them; the counts behind the cells are as at first
 module _ (n : ℕ) (rows : List ℕ) (faces cells : ℕ) where

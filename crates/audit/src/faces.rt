@@ -1,33 +1,27 @@
 // The pass over the faces: sides are counted, and faults found and laid.
 use super::Stand;
 use super::counts::clear;
-use super::counts::tally;
+use super::counts::tally_face;
 use faults::Frame;
 use mesh::Face;
 use records::Fault;
 use records::Pen;
 ghost use mathlib.Core.Path.{_≡_};
 ghost use Prim.Native.Nat.{_<_, _≤_, _^_};
+ghost use lib.Dec.{eqb};
 ghost use lib.ListN.{length};
 ghost use Rattle.sizes.specs.Sizes.{rows as most};
 ghost use Rattle.mesh.specs.Rows.{places, faceWords, rowsIn, faceAt};
-ghost use Rattle.faults.specs.Faults.{faultAt};
+ghost use Rattle.records.specs.Record.{fault};
+ghost use Rattle.faults.specs.Faults.{faultIf};
 ghost use Rattle.audit.specs.Steps.{Visited, Tallying, Sound, Faced};
 
-// One kind at one position of a face.
-fn visit(
-    frame: Frame,
-    face: Face,
-    number: u32,
-    kind: u32,
-    p: u32,
-    list: &mut [u8],
-    s: Stand,
-) -> Stand
+// One kind at one position of a face, where its bit is set.
+fn visit(bit: u32, number: u32, kind: u32, p: u32, list: &mut [u8], s: Stand) -> Stand
     requires { ⌜ s .total < 2 ^ 31 ⌝ }
-    ensures { λ r. ⌜ Visited (now (list .entry)) s (faultAt places frame number face kind p) 1 (now (list .exit)) r ⌝ }
+    ensures { λ r. ⌜ Visited (now (list .entry)) s (faultIf (eqb bit 1) (fault kind number p)) 1 (now (list .exit)) r ⌝ }
 {
-    if faults::has_fault(frame, face, kind, p) {
+    if bit == 1 {
         let total = s.total + 1;
         let f = Fault {
             kind: kind,
@@ -37,7 +31,15 @@ fn visit(
         let pen = records::put(list, s.pen, f);
         return Stand { pen, total };
     }
-    s
+    // field by field: as a whole it would go through memory
+    let pen = s.pen;
+    Stand {
+        pen: Pen {
+            at: pen.at,
+            live: pen.live,
+        },
+        total: s.total,
+    }
 }
 
 // The face row at f, as `mesh::face_at` has it, without its test for the end: the caller knows that the row is there.
@@ -58,19 +60,16 @@ fn face_of(rows: &[u32], f: usize) -> Face
 }
 
 // Counts the sides of the faces from `from` on, up to the first with a fault, and answers that one; `faces`, if all are sound.
-// Most faces are sound, so this is the hot loop. The listing of faults stands outside it: inside, it takes the loop's registers.
+// Most faces are sound, so this is the hot loop. The listing of faults stands outside it: inside, it takes the loop's registers. It is called at two places, so that it stays a function of its own.
 fn sound_to(frame: Frame, from: usize, faces: usize, rows: &[u32], counts: &mut [u32]) -> usize
     requires { ⌜ (from ≤ faces) × (faces ≤ most) × (faces ≤ rowsIn (faceWords places) (now rows)) × (frame .cells ≤ length (now counts))
         × Tallying places (now rows) faces (frame .cells) (now counts) from (now counts) ⌝ }
     ensures { λ r. ⌜ Sound frame from faces (now (rows .entry)) (now (counts .entry)) (now (counts .exit)) r ⌝ }
 {
-    let cells = frame.cells as usize;
     let mut f = from;
     while f < faces {
         let face = face_of(rows, f);
-        tally(counts, cells, face.right);
-        tally(counts, cells, face.left);
-        if faults::any_fault(frame, face) {
+        if tally_face(counts, frame, face) {
             return f;
         }
         f += 1;
@@ -92,24 +91,26 @@ pub(crate) fn audit_faces(
     clear(counts, cells);
     let pen = Pen { at: 0, live: true };
     let mut s = Stand { pen, total: 0 };
-    let mut f: usize = 0;
-    'faces: loop {
-        f = sound_to(frame, f, faces, rows, counts);
-        if faces <= f {
-            return s;
-        }
-        let face = mesh::face_at(rows, f);
+    let mut f = sound_to(frame, 0, faces, rows, counts);
+    'faces: while f < faces {
+        let face = face_of(rows, f);
         f += 1;
         let number = f as u32;
+        let mut marks = faults::marks_of(frame, face);
         let mut kind: u32 = 1;
-        'kinds: while kind < 8 {
-            let positions = faults::positions(face, kind);
+        'kinds: while 0 < marks {
+            let mut here = marks % 16;
+            marks = marks / 16;
             let mut p: u32 = 0;
-            'positions: while p < positions {
-                s = visit(frame, face, number, kind, p, list, s);
+            'positions: while 0 < here {
+                let bit = here % 2;
+                s = visit(bit, number, kind, p, list, s);
+                here = here / 2;
                 p += 1;
             }
             kind += 1;
         }
+        f = sound_to(frame, f, faces, rows, counts);
     }
+    s
 }

@@ -1,18 +1,21 @@
 -- The tests' ways through the code, each over plain numbers. Assumes nothing.
-use Prim.Native.Nat.{ℕ, _-_, _≤_, _<_}
+use Prim.Native.Nat.{ℕ, _≤_, _<_}
 use native.Mathlib.Omega.{arith}
 use mathlib.Core.Path.{_≡_, sym, _∙_}
-use mathlib.Core.List.{List}
-use mathlib.Core.Bool.{Bool, true, false, not, _&&_, _||_}
-use borrow.Author.Tests.{lt-ltb, le-ltb, le-leb, lt-leb, eq-eqb, ne-eqb, leb-true, leb-false}
+use mathlib.Core.List.{[], _∷_}
+use mathlib.Core.Bool.{Bool, true, false, not, _&&_, _||_, or-false}
+use borrow.Author.Tests.{lt-ltb, le-ltb, ltb-true, ltb-false, le-leb, lt-leb, eq-eqb, ne-eqb, eqb-true, eqb-false, leb-true, leb-false}
 use lib.Dec.{eqb, ltb, leb}
-use lib.ListN.{length, take, getD, List·getD-eq-default}
-use lib.Seq.{take-all}
 use Rattle.facts.proofs.Branch.{split}
 use Rattle.mesh.specs.declared.Face.{Face}
 use Rattle.mesh.specs.declared.Cell.{Cell}
-use Rattle.faults.specs.declared.Frame.{Frame}
-use Rattle.faults.specs.Faults.{lookedAt, positionsOf, wrongCount, wrongNode, isIn, interior, isOpen, isLoose, flatElements, solidElements, wrongElement, sidesFor, wrongSides, hasFault}
+use Rattle.faults.specs.Faults.{wrongCount, isIn, interior, isOpen, isLoose, wrongElement, sidesFor, wrongSides}
+
+pub eqb-swap : (a b : ℕ) → eqb a b ≡ eqb b a
+eqb-swap a b =
+    split (eqb b a)
+    (λ t. rw t (eq-eqb a b (sym (eqb-true b a t))))
+    (λ t. rw t (ne-eqb a b (λ e. eqb-false b a t (sym e))))
 
 -- above is not at most
 above-not : (a b : ℕ) → ltb b a ≡ not (leb a b)
@@ -30,26 +33,6 @@ module _ (n dim count : ℕ) where
   pub count-above : (dim ≡ 2 → ⊥) → 3 ≤ count → ltb n count ≡ wrongCount n dim count
   unfolding wrongCount
   count-above e h = above-not count n ∙ rw (ne-eqb dim 2 e, le-leb 3 count h, wrongCount)
-
-module _ (n : ℕ) (face : Face) (kind : ℕ) where
-  pub positions-nodes : (leb 2 kind && leb kind 3) ≡ true → lookedAt n (face .count) ≡ positionsOf n face kind
-  unfolding positionsOf
-  positions-nodes h = rw (h, positionsOf)
-
-  pub positions-sides : (leb 2 kind && leb kind 3) ≡ false → kind ≡ 4 → 2 ≡ positionsOf n face kind
-  unfolding positionsOf
-  positions-sides h e = rw (h, eq-eqb kind 4 e, positionsOf)
-
-  pub positions-one : (leb 2 kind && leb kind 3) ≡ false → (kind ≡ 4 → ⊥) → 1 ≡ positionsOf n face kind
-  unfolding positionsOf
-  positions-one h e = rw (h, ne-eqb kind 4 e, positionsOf)
-
-module _ (l : List ℕ) (p : ℕ) (h : length l ≤ p) where
-  pub past-zero : 0 ≡ getD l p 0
-  past-zero = sym (List·getD-eq-default l 0 h)
-
-  pub past-all : (x : ℕ) → isIn x l ≡ isIn x (take p l)
-  past-all x = rw (take-all p l h)
 
 module _ (cells : ℕ) (face : Face) where
   pub open-none : cells ≡ 0 → false ≡ isOpen cells face
@@ -77,6 +60,9 @@ and-second a b h = rw h
 pub or-first : (a b : Bool) → a ≡ true → a ≡ (a || b)
 or-first a b h = rw h
 
+pub or-true-first : (a b : Bool) → a ≡ true → true ≡ (a || b)
+or-true-first a b h = rw h
+
 pub or-second : (a b : Bool) → a ≡ false → b ≡ (a || b)
 or-second a b h = rw h
 
@@ -93,25 +79,51 @@ module _ (cell : Cell) (count : ℕ) where
   pub sides-count : (cell .ztype ≡ 0 → ⊥) → 1 ≤ cell .element → cell .element ≤ 6 → not (eqb count (sidesFor (cell .element))) ≡ wrongSides cell count
   sides-count e l h = rw (ne-eqb (cell .ztype) 0 e, le-leb 1 (cell .element) l, le-leb (cell .element) 6 h)
 
-module _ (dim e : ℕ) (b : Bool) where
-  pub element-flat : dim ≡ 2 → b ≡ isIn e flatElements → not b ≡ wrongElement dim e
-  unfolding wrongElement
-  element-flat h q = rw (eq-eqb dim 2 h, q, wrongElement)
+-- the sides of the elements 2 and 3, and of 5 and 6
+pub sides-4 : (e : ℕ) → 1 ≤ e → (e ≡ 1 → ⊥) → e < 4 → 4 ≡ sidesFor e
+sides-4 e l d h = split (eqb e 2) (λ t. rw (eqb-true e 2 t)) (λ t. let q = eqb-false e 2 t in let k : e ≡ 3 = three q in rw k)
+  where
+    three : (e ≡ 2 → ⊥) → e ≡ 3
+    three q = omega arith
 
-  pub element-solid : (dim ≡ 2 → ⊥) → b ≡ isIn e solidElements → not b ≡ wrongElement dim e
-  unfolding wrongElement
-  element-solid h q = rw (ne-eqb dim 2 h, q, wrongElement)
+pub sides-5 : (e : ℕ) → e ≤ 6 → 4 ≤ e → (e ≡ 4 → ⊥) → 5 ≡ sidesFor e
+sides-5 e h l d = split (eqb e 5) (λ t. rw (eqb-true e 5 t)) (λ t. let q = eqb-false e 5 t in let k : e ≡ 6 = six q in rw k)
+  where
+    six : (e ≡ 5 → ⊥) → e ≡ 6
+    six q = omega arith
 
-pub node-read : (nodes x y : ℕ) (b : Bool) → x ≡ y → b ≡ wrongNode nodes x → b ≡ wrongNode nodes y
-node-read nodes x y b e h = rw (← e) h
+module _ (dim e : ℕ) where
+  pub element-1 : dim ≡ 2 → (e ≡ 1 → ⊥) → not (eqb e 3) ≡ wrongElement dim e
+  unfolding wrongElement isIn
+  element-1 h q = rw (eq-eqb dim 2 h, wrongElement, ne-eqb 1 e (λ z. q (sym z)), or-false, eqb-swap e 3)
 
-pub earlier-read : (l : List ℕ) (x y : ℕ) (b : Bool) → x ≡ y → b ≡ isIn x l → b ≡ isIn y l
-earlier-read l x y b e h = rw (← e) h
+  pub element-is-1 : dim ≡ 2 → e ≡ 1 → not (eqb e 1) ≡ wrongElement dim e
+  unfolding wrongElement isIn
+  element-is-1 h q = rw (h, q, wrongElement)
 
--- no kind of a face
-pub no-kind : (n : ℕ) (frame : Frame) (face : Face) (kind p : ℕ)
-    → (kind ≡ 1 → ⊥) → (kind ≡ 2 → ⊥) → (kind ≡ 3 → ⊥) → (kind ≡ 4 → ⊥) → (kind ≡ 5 → ⊥) → (kind ≡ 6 → ⊥) → (kind ≡ 7 → ⊥)
-    → false ≡ hasFault n frame face kind p
-unfolding hasFault
-no-kind n frame face kind p a b c d e f g =
-    rw (ne-eqb kind 1 a, ne-eqb kind 2 b, ne-eqb kind 3 c, ne-eqb kind 4 d, ne-eqb kind 5 e, ne-eqb kind 6 f, ne-eqb kind 7 g, hasFault)
+  pub element-2 : (dim ≡ 2 → ⊥) → e ≡ 2 → false ≡ wrongElement dim e
+  unfolding wrongElement isIn
+  element-2 h q = rw (ne-eqb dim 2 h, wrongElement, q)
+
+  pub element-low : (dim ≡ 2 → ⊥) → (e ≡ 2 → ⊥) → e < 4 → ltb e 4 ≡ wrongElement dim e
+  unfolding wrongElement isIn
+  element-low h q l =
+      rw (ne-eqb dim 2 h, wrongElement, lt-ltb e 4 l, ne-eqb 2 e (λ z. q (sym z)), ne-eqb 4 e (λ z. omega arith), ne-eqb 5 e (λ z. omega arith), ne-eqb 6 e (λ z. omega arith))
+
+  pub element-high : (dim ≡ 2 → ⊥) → 4 ≤ e → ltb 6 e ≡ wrongElement dim e
+  unfolding wrongElement isIn
+  element-high h l =
+      split (ltb 6 e)
+      (λ t.
+      let k = ltb-true 6 e t in
+      rw (t, ne-eqb dim 2 h, wrongElement, ne-eqb 2 e (λ z. omega arith), ne-eqb 4 e (λ z. omega arith), ne-eqb 5 e (λ z. omega arith), ne-eqb 6 e (λ z. omega arith)))
+      (λ t. rw (t, ne-eqb dim 2 h, wrongElement, ne-eqb 2 e (λ z. omega arith)) (sym (rw (listed (ltb-false 6 e t)))))
+    where
+      listed : e ≤ 6 → isIn e (4 ∷ 5 ∷ 6 ∷ []) ≡ true
+      listed k =
+          split (eqb 4 e) (λ t. rw t)
+          (λ t. split (eqb 5 e) (λ u. rw (t, u))
+          (λ u. let p = eqb-false 4 e t in let q = eqb-false 5 e u in rw (t, u, eq-eqb 6 e (last p q))))
+        where
+          last : (4 ≡ e → ⊥) → (5 ≡ e → ⊥) → 6 ≡ e
+          last p q = omega arith

@@ -1,5 +1,4 @@
 mod Leaves
-mod Search
 pub mod Over
 pub mod Sides
 pub mod Order
@@ -8,3 +7,6 @@ pub mod Members
 pub mod Exactly
 pub mod Any
 pub mod Only
+pub mod OfSides
+mod OfNodes
+pub mod Marked

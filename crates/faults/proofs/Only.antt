@@ -1,19 +1,19 @@
 -- No second answer of a public function meets its contract. Assumes nothing.
 use mathlib.Core.Path.{sym, _∙_}
 use Rattle.facts.specs.Only.{Only}
-use Rattle.faults.proofs.faces.positions.Reads as positions
-use Rattle.faults.proofs.faces.has_fault.Reads as has-fault
-use Rattle.faults.proofs.faces.any_fault.Reads as any-fault
+use Rattle.faults.proofs.sound.any_node_fault.Reads as any-node-fault
+use Rattle.faults.proofs.sound.any_side_fault.Reads as any-side-fault
+use Rattle.faults.proofs.marks.marks_of.Reads as marks-of
 use Rattle.faults.proofs.cells.has_cell_fault.Reads as has-cell-fault
 
-pub positions-only : Only positions.Post
-positions-only κ a r r′ x x′ p q = p ∙ sym q
+pub any-node-fault-only : Only any-node-fault.Post
+any-node-fault-only κ a r r′ x x′ p q = p ∙ sym q
 
-pub has-fault-only : Only has-fault.Post
-has-fault-only κ a r r′ x x′ p q = p ∙ sym q
+pub any-side-fault-only : Only any-side-fault.Post
+any-side-fault-only κ a r r′ x x′ p q = p ∙ sym q
 
-pub any-fault-only : Only any-fault.Post
-any-fault-only κ a r r′ x x′ p q = p ∙ sym q
+pub marks-of-only : Only marks-of.Post
+marks-of-only κ a r r′ x x′ p q = p ∙ sym q
 
 pub has-cell-fault-only : Only has-cell-fault.Post
 has-cell-fault-only κ a r r′ x x′ p q = p ∙ sym q

@@ -102,6 +102,13 @@ faultsOfFace n frame i face = each (faultsOfKind n frame i face) 1 7
 unfoldable pub anyOfKind : ℕ → Frame → Face → ℕ → Bool
 anyOfKind n frame face kind = anyOf (hasFault n frame face kind) 0 (positionsOf n face kind)
 
+-- kinds 1 to 3, of the nodes, and 4 to 7, of the sides
+unfoldable pub nodeFault : ℕ → Frame → Face → Bool
+nodeFault n frame face = anyOf (anyOfKind n frame face) 1 3
+
+unfoldable pub sideFault : ℕ → Frame → Face → Bool
+sideFault n frame face = anyOf (anyOfKind n frame face) 4 4
+
 unfoldable pub anyFault : ℕ → Frame → Face → Bool
 anyFault n frame face = anyOf (anyOfKind n frame face) 1 7
 

@@ -3,3 +3,4 @@ pub mod Faults
 pub mod Sides
 pub mod Wrong
 pub mod Order
+pub mod Marked

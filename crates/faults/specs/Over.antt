@@ -1,5 +1,5 @@
 -- Lists and sums over a range of numbers. To be believed: all of this file. Assumes nothing.
-use Prim.Native.Nat.{ℕ, zero, suc, _+_}
+use Prim.Native.Nat.{ℕ, zero, suc, _+_, _*_}
 use mathlib.Core.Bool.{Bool, false, _||_}
 use mathlib.Core.List.{List, [], _∷_, _++_}
 
@@ -22,3 +22,8 @@ sumOver g i (suc n) = g i + sumOver g (i + 1) n
 unfoldable pub anyOf : (ℕ → Bool) → ℕ → ℕ → Bool
 anyOf g i zero = false
 anyOf g i (suc n) = g i || anyOf g (i + 1) n
+
+-- the digits g i, g (i + 1), .., n of them to the base b, the lowest first
+unfoldable pub packed : ℕ → (ℕ → ℕ) → ℕ → ℕ → ℕ
+packed b g i zero = 0
+packed b g i (suc n) = g i + b * packed b g (i + 1) n

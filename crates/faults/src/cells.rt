@@ -1,24 +1,34 @@
 // The table's lines 8 and 9.
 use super::Frame;
-use super::listed::is_in;
 use mesh::Cell;
 ghost use mathlib.Core.Path.{_≡_};
-ghost use Rattle.faults.specs.Faults.{wrongElement, wrongSides, hasCellFault};
-
-const FLAT: [u32; 2] = [1, 3];
-
-const SOLID: [u32; 4] = [2, 4, 5, 6];
-
-// Sides of the elements 1 to 6.
-const SIDES: [u32; 6] = [3, 4, 4, 6, 5, 5];
+ghost use Prim.Native.Nat.{_≤_};
+ghost use Rattle.faults.specs.Faults.{wrongElement, sidesFor, wrongSides, hasCellFault};
 
 fn wrong_element(dim: u32, element: u32) -> bool
     ensures { λ r. ⌜ r ≡ wrongElement dim element ⌝ }
 {
     if dim == 2 {
-        return !is_in(element, &FLAT);
+        return element != 1 && element != 3;
     }
-    !is_in(element, &SOLID)
+    if element == 2 {
+        return false;
+    }
+    element < 4 || 6 < element
+}
+
+// The sides of an element. No table: it would be built at each use.
+fn sides_of(element: u32) -> u32
+    requires { ⌜ (1 ≤ element) × (element ≤ 6) ⌝ }
+    ensures { λ r. ⌜ r ≡ sidesFor element ⌝ }
+{
+    if element == 1 {
+        return 3;
+    }
+    if element < 4 {
+        return 4;
+    }
+    if element == 4 { 6 } else { 5 }
 }
 
 fn wrong_sides(cell: Cell, count: u32) -> bool
@@ -34,9 +44,7 @@ fn wrong_sides(cell: Cell, count: u32) -> bool
     if 6 < element {
         return false;
     }
-    let at = (element - 1) as usize;
-    let wanted = SIDES[at];
-    count != wanted
+    count != sides_of(element)
 }
 
 // Whether the cell, with so many sides, has a fault of the kind.

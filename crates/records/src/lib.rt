@@ -60,15 +60,29 @@ fn lay_number(list: &mut [u8], n: usize, x: u32)
     }
 }
 
+// Fills the start of the list with the extra. Each size stands as a constant, so that the compiler leaves no loop.
+fn lay_extra(list: &mut [u8], kind: u32, x: u32)
+    requires { ⌜ extraBytes narrow kind ≤ length (now list) ⌝ }
+    ensures { λ _. ⌜ now (list .exit) ≡ bigEndian (extraBytes narrow kind) x ++ drop (extraBytes narrow kind) (now (list .entry)) ⌝ }
+{
+    if has_place(kind) {
+        lay_number(list, 1, x);
+        return;
+    }
+    if kind == 9 {
+        lay_number(list, COUNT_BYTES, x);
+        return;
+    }
+}
+
 // The record writer: fills the start of what it is lent.
 fn lay_record(list: &mut [u8], f: Fault)
     requires { ⌜ sizeOf narrow (f .kind) ≤ length (now list) ⌝ }
     ensures { λ _. ⌜ now (list .exit) ≡ recordOf narrow f ++ drop (sizeOf narrow (f .kind)) (now (list .entry)) ⌝ }
 {
-    let extra = extra_bytes(f.kind);
     lay_number(list, 1, f.kind);
     lay_number(&mut list[1..], INDEX_BYTES, f.index);
-    lay_number(&mut list[EXTRA_AT..], extra, f.extra);
+    lay_extra(&mut list[EXTRA_AT..], f.kind, f.extra);
 }
 
 // What is left of a list behind a place.

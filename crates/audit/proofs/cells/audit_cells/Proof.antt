@@ -36,8 +36,8 @@ cast-cells c = search needs
 cells-holds : tie.Need-cells-holds Inv-kinds μ-kinds Inv-cells μ-cells
 cells-holds c = (omega arith, start _ 1 0 _ _ 0 (omega arith))
 
-cell-at-requires : tie.Need-cell-at-requires Inv-kinds μ-kinds Inv-cells μ-cells
-cell-at-requires c κs = search needs
+cell-of-requires : tie.Need-cell-of-requires Inv-kinds μ-kinds Inv-cells μ-cells
+cell-of-requires c κs = omega (arith, c .before .before .before .before .before .before .pre .3)
 
 mul-count : tie.Need-mul-count Inv-kinds μ-kinds Inv-cells μ-cells
 mul-count c = search needs
@@ -63,14 +63,14 @@ cells-again c =
     let l = c .before .before .before .before .before in (
       omega arith,
       turn _ (l .cells .c + 1) _ _ 2 _ (omega arith) (omega arith) (l .cells .inv .1)
-          (cell-visited _ _ (l .before .before .before .before .before .args .counts .now) _ _ (c .before .before .before .cell-at .ensures) (done _ _ _ 10 2 (omega arith) (omega arith) (c .before .kinds .inv .2))),
+          (cell-visited _ _ (l .before .before .before .before .before .args .counts .now) _ _ (c .before .before .before .cell-of .ensures) (done _ _ _ 10 2 (omega arith) (omega arith) (c .before .kinds .inv .2))),
     )
 
 visit-requires : tie.Need-visit-requires Inv-kinds μ-kinds Inv-cells μ-cells
 visit-requires c κs =
     let k = c .before .before in
     let l = k .before .before .before .before in
-    omega (arith, k .kinds .inv .2 .few, l .cells .inv .1 .few, l .before .before .before .before .before .pre)
+    omega (arith, k .kinds .inv .2 .few, l .cells .inv .1 .few, l .before .before .before .before .before .pre .2)
 
 add-kind : tie.Need-add-kind Inv-kinds μ-kinds Inv-cells μ-cells
 add-kind c = search needs
@@ -99,7 +99,7 @@ audit-cells-spec =
     μ-cells
     cast-cells
     cells-holds
-    cell-at-requires
+    cell-of-requires
     mul-count
     shared-slice-read-count
     add-c

@@ -26,7 +26,7 @@ returns c =
     cell-found _ _ _ _ _ _ _ _ (sym (h .has-cell-fault .ensures) ∙ c .before .before .before .before .before .before .if1 .taken) (c .before .before .before .before .extra-of .ensures) (c .before .before .put .ensures)
 
 returns-2 : tie.Need-returns-2
-returns-2 c = cell-clear _ _ _ _ _ _ _ (sym (c .before .has-cell-fault .ensures) ∙ c .if1 .left)
+returns-2 c = cell-clear _ _ _ _ _ _ _ (sym (c .before .before .has-cell-fault .ensures) ∙ c .before .if1 .left)
 
 pub visit-spec : {M : Type 1} → statement M
 visit-spec =

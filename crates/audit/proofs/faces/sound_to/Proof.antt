@@ -1,5 +1,5 @@
 -- `audit::faces::sound_to` meets its contract: no face so far has a fault, and their sides are counted. Assumes nothing.
-use Prim.Native.Nat.{_≤_, _-_, _+_, _*_}
+use Prim.Native.Nat.{_≤_, _-_, _+_}
 use native.Mathlib.Omega.{arith}
 use mathlib.Core.Path.{_≡_, refl, sym, _∙_}
 use borrow.Author.Needs.{needs}
@@ -9,65 +9,49 @@ use Rattle.faults.specs.Over.{each}
 use Rattle.audit.specs.All.{faceFaults}
 use Rattle.audit.specs.Steps.{Tallying}
 use Rattle.audit.proofs.Loop.{face-quiet}
-use Rattle.audit.proofs.Counting.{tallying-small, bumped-small, tallying-more, tallying-past}
+use Rattle.audit.proofs.Counting.{tallying-small, tallying-more, tallying-past}
 use Rattle.audit.proofs.faces.sound_to.Statement.{statement}
 use Rattle.audit.proofs.faces.sound_to.Tie as tie
 
 abbrev Inv-loop : tie.InvT-loop
-Inv-loop frame from faces rows counts₀ cells f₀ counts f =
+Inv-loop frame from faces rows counts₀ f₀ counts f =
     (from ≤ f)
     × (f ≤ faces)
-    × (cells ≤ length counts)
+    × (frame .cells ≤ length counts)
     × (each (faceFaults places frame rows) (from + 1) (faces - from) ≡ each (faceFaults places frame rows) (f + 1) (faces - f))
-    × Tallying places rows faces cells counts₀ f counts
+    × Tallying places rows faces (frame .cells) counts₀ f counts
 
 abbrev μ-loop : tie.MeasureT-loop
-μ-loop frame from faces rows counts₀ cells f₀ counts f = faces - f
-
-cast-cells : tie.Need-cast-cells Inv-loop μ-loop
-cast-cells c = search needs
+μ-loop frame from faces rows counts₀ f₀ counts f = faces - f
 
 loop-holds : tie.Need-loop-holds Inv-loop μ-loop
-loop-holds c = let s = c .before .before .before in (omega arith, s .pre .0, s .pre .3, refl, s .pre .4)
+loop-holds c = let s = c .before .before in (omega arith, s .pre .0, s .pre .3, refl, s .pre .4)
 
 face-of-requires : tie.Need-face-of-requires Inv-loop μ-loop
-face-of-requires c κs = omega (arith, c .before .before .before .before .before .pre .2)
+face-of-requires c κs = omega (arith, c .before .before .before .before .pre .2)
 
-tally-requires : tie.Need-tally-requires Inv-loop μ-loop
-tally-requires c κs =
+tally-face-requires : tie.Need-tally-face-requires Inv-loop μ-loop
+tally-face-requires c κs =
     let l = c .before .before .before in
-    (l .loop .inv .2, λ i h. omega (arith, l .before .before .before .before .pre .1, tallying-small places _ _ _ (l .loop .inv .4) i h))
-
-tally-requires-2 : tie.Need-tally-requires-2 Inv-loop μ-loop
-tally-requires-2 c κs =
-    let t = c .before .before .before in
-    let l = t .before .before .before .before in
-    let s = l .before .before .before .before in (
-      omega (arith, t .tally .kept .0, l .loop .inv .2),
-      λ i h. omega (arith, s .pre .1, bumped-small _ _ (s .args .faces * 2) _ _ (l .loop .inv .2) (t .tally .ensures) (tallying-small places _ _ _ (l .loop .inv .4)) i h),
-    )
-
-any-fault-requires : tie.Need-any-fault-requires Inv-loop μ-loop
-any-fault-requires c κs = search needs
+    (l .loop .inv .2, λ i h. omega (arith, l .before .before .before .pre .1, tallying-small places _ _ _ (l .loop .inv .4) i h))
 
 same-length : tie.Need-same-length Inv-loop μ-loop
 same-length c =
-    let t = c .before .before .before .before in
-    let u = t .before .before .before .before in
-    t .tally2 .kept .0 ∙ u .tally .kept .0 ∙ u .before .before .before .before .loop .inv .4 .kept
+    let t = c .before .before .before in
+    t .tally-face .kept .0 ∙ t .before .before .before .before .loop .inv .4 .kept
 
 returns : tie.Need-returns Inv-loop μ-loop
 returns c =
-    let t = c .before .before .before .before in
-    let u = t .before .before .before .before in
-    let l = u .before .before .before .before .loop in
-    let face = u .before .before .face-of in
+    let t = c .before .before .before in
+    let e = t .tally-face .ensures in
+    let face = t .before .before .face-of in
+    let l = t .before .before .before .before .loop in
     record {
       ahead = omega arith;
       within = omega arith;
       quiet = l .inv .3;
-      faulty = λ _. rw (← face .ensures) (sym (c .before .any-fault .ensures) ∙ c .if1 .taken);
-      tallied = tallying-more places _ _ _ _ (omega arith) (l .inv .2) (face .ensures) (u .tally .ensures) (t .tally2 .ensures) (l .inv .4);
+      faulty = λ _. rw (← face .ensures) (sym (e .answer) ∙ c .if1 .taken);
+      tallied = tallying-more places _ _ _ _ (omega arith) (l .inv .2) (face .ensures) refl (e .counts) (l .inv .4);
     }
 
 add-f : tie.Need-add-f Inv-loop μ-loop
@@ -78,15 +62,15 @@ loop-less c = omega arith
 
 loop-again : tie.Need-loop-again Inv-loop μ-loop
 loop-again c =
-    let t = c .before .before .before .before in
-    let u = t .before .before .before .before in
-    let l = u .before .before .before .before .loop in
-    let face = u .before .before .face-of in (
+    let t = c .before .before .before in
+    let e = t .tally-face .ensures in
+    let face = t .before .before .face-of in
+    let l = t .before .before .before .before .loop in (
       omega arith,
       omega arith,
-      omega (arith, t .tally2 .kept .0, u .tally .kept .0, l .inv .2),
-      l .inv .3 ∙ face-quiet places _ _ _ _ _ (omega arith) (face .ensures) (sym (c .before .any-fault .ensures) ∙ c .if1 .left),
-      tallying-more places _ _ _ _ (omega arith) (l .inv .2) (face .ensures) (u .tally .ensures) (t .tally2 .ensures) (l .inv .4),
+      omega (arith, t .tally-face .kept .0, l .inv .2),
+      l .inv .3 ∙ face-quiet places _ _ _ _ _ (omega arith) (face .ensures) (sym (e .answer) ∙ c .if1 .left),
+      tallying-more places _ _ _ _ (omega arith) (l .inv .2) (face .ensures) refl (e .counts) (l .inv .4),
     )
 
 same-length-2 : tie.Need-same-length-2 Inv-loop μ-loop
@@ -109,12 +93,9 @@ sound-to-spec =
     (tie.spec
     Inv-loop
     μ-loop
-    cast-cells
     loop-holds
     face-of-requires
-    tally-requires
-    tally-requires-2
-    any-fault-requires
+    tally-face-requires
     same-length
     returns
     add-f

@@ -1,34 +1,22 @@
--- `faults::cells::wrong_element` meets its contract: flat and solid. Assumes nothing.
-use borrow.Author.Needs.{needs}
-use Rattle.faults.proofs.Leaves.{element-flat, element-solid}
+-- `faults::cells::wrong_element` meets its contract: flat in two ways, solid in three. Assumes nothing.
+use Rattle.faults.proofs.Leaves.{element-1, element-is-1, element-2, element-low, element-high}
 use Rattle.faults.proofs.cells.wrong_element.Statement.{statement}
 use Rattle.faults.proofs.cells.wrong_element.Tie as tie
 
-slice-aggregate-is-in : tie.Need-slice-aggregate-is-in
-slice-aggregate-is-in c = search needs
-
-is-in-requires : tie.Need-is-in-requires
-is-in-requires c κs = search needs
-
 returns : tie.Need-returns
-returns c = element-flat _ _ _ (c .before .before .if1 .taken) (c .is-in .ensures)
-
-slice-aggregate-is-in-2 : tie.Need-slice-aggregate-is-in-2
-slice-aggregate-is-in-2 c = search needs
-
-is-in-requires-2 : tie.Need-is-in-requires-2
-is-in-requires-2 c κs = search needs
+returns c = element-1 _ _ (c .before .if1 .taken) (c .if2 .taken)
 
 returns-2 : tie.Need-returns-2
-returns-2 c = element-solid _ _ _ (c .before .before .if1 .left) (c .is-in2 .ensures)
+returns-2 c = element-is-1 _ _ (c .before .if1 .taken) (c .if2 .left)
+
+returns-3 : tie.Need-returns-3
+returns-3 c = element-2 _ _ (c .before .if1 .left) (c .if3 .taken)
+
+returns-4 : tie.Need-returns-4
+returns-4 c = element-low _ _ (c .before .before .if1 .left) (c .before .if3 .left) (c .if4 .taken)
+
+returns-5 : tie.Need-returns-5
+returns-5 c = element-high _ _ (c .before .before .if1 .left) (c .if4 .left)
 
 pub wrong-element-spec : {M : Type 1} → statement M
-wrong-element-spec =
-    tie.close
-    (tie.spec
-    slice-aggregate-is-in
-    is-in-requires
-    returns
-    slice-aggregate-is-in-2
-    is-in-requires-2
-    returns-2)
+wrong-element-spec = tie.close (tie.spec returns returns-2 returns-3 returns-4 returns-5)

@@ -13,18 +13,15 @@ returns-2 c = sides-low _ _ (c .before .if1 .left) (c .if2 .taken)
 returns-3 : tie.Need-returns-3
 returns-3 c = sides-high _ _ (c .before .before .if1 .left) (c .before .if2 .left) (c .if3 .taken)
 
-cast-at : tie.Need-cast-at
-cast-at c = search needs
-
-mul-wanted : tie.Need-mul-wanted
-mul-wanted c = search needs
-
-array-read-wanted : tie.Need-array-read-wanted
-array-read-wanted c = search needs
+sides-of-requires : tie.Need-sides-of-requires
+sides-of-requires c κs = search needs
 
 returns-4 : tie.Need-returns-4
-returns-4 c = sides-count _ _ (c .before .before .if1 .left) (c .before .if2 .left) (c .if3 .left)
+returns-4 c =
+    let s = c .before in
+    let a = s .before .before .before .before .args in
+    rw (c .sides-of .ensures) (sides-count (a .cell) (a .count) (s .before .before .if1 .left) (s .before .if2 .left) (s .if3 .left))
 
 pub wrong-sides-spec : {M : Type 1} → statement M
 wrong-sides-spec =
-    tie.close (tie.spec returns returns-2 returns-3 cast-at mul-wanted array-read-wanted returns-4)
+    tie.close (tie.spec returns returns-2 returns-3 sides-of-requires returns-4)

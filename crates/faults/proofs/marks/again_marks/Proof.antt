@@ -1,0 +1,45 @@
+-- `faults::marks::again_marks` meets its contract: the test of each position that is looked at. Assumes nothing.
+use Rattle.faults.proofs.Marked.{again-read}
+use borrow.Author.Needs.{needs}
+use Rattle.faults.proofs.marks.again_marks.Statement.{statement}
+use Rattle.faults.proofs.marks.again_marks.Tie as tie
+
+array-read-a : tie.Need-array-read-a
+array-read-a c = search needs
+
+array-read-b : tie.Need-array-read-b
+array-read-b c = search needs
+
+array-read-c : tie.Need-array-read-c
+array-read-c c = search needs
+
+array-read-d : tie.Need-array-read-d
+array-read-d c = search needs
+
+is-one-of-two-requires : tie.Need-is-one-of-two-requires
+is-one-of-two-requires c κs = search needs
+
+is-one-of-three-requires : tie.Need-is-one-of-three-requires
+is-one-of-three-requires c κs = search needs
+
+looked-bits-requires : tie.Need-looked-bits-requires
+looked-bits-requires c κs = search needs
+
+returns : tie.Need-returns
+returns c =
+    let d = c .before in
+    let s = d .before .before in
+    again-read (s .args .t2) (s .args .looked) (search needs) (s .pre) (d .before .is-one-of-two .ensures) (d .is-one-of-three .ensures) (c .looked-bits .ensures)
+
+pub again-marks-spec : {M : Type 1} → statement M
+again-marks-spec =
+    tie.close
+    (tie.spec
+    array-read-a
+    array-read-b
+    array-read-c
+    array-read-d
+    is-one-of-two-requires
+    is-one-of-three-requires
+    looked-bits-requires
+    returns)

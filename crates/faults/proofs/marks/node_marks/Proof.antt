@@ -1,0 +1,56 @@
+-- `faults::marks::node_marks` meets its contract: the test of each position that is looked at. Assumes nothing.
+use lib.ListN.{getD}
+use Rattle.faults.specs.Faults.{wrongNode}
+use Rattle.faults.proofs.Marked.{cut-read}
+use borrow.Author.Needs.{needs}
+use Rattle.faults.proofs.marks.node_marks.Statement.{statement}
+use Rattle.faults.proofs.marks.node_marks.Tie as tie
+
+array-read-wrong-node : tie.Need-array-read-wrong-node
+array-read-wrong-node c = search needs
+
+wrong-node-requires : tie.Need-wrong-node-requires
+wrong-node-requires c κs = search needs
+
+array-read-wrong-node-2 : tie.Need-array-read-wrong-node-2
+array-read-wrong-node-2 c = search needs
+
+wrong-node-requires-2 : tie.Need-wrong-node-requires-2
+wrong-node-requires-2 c κs = search needs
+
+array-read-wrong-node-3 : tie.Need-array-read-wrong-node-3
+array-read-wrong-node-3 c = search needs
+
+wrong-node-requires-3 : tie.Need-wrong-node-requires-3
+wrong-node-requires-3 c κs = search needs
+
+array-read-wrong-node-4 : tie.Need-array-read-wrong-node-4
+array-read-wrong-node-4 c = search needs
+
+wrong-node-requires-4 : tie.Need-wrong-node-requires-4
+wrong-node-requires-4 c κs = search needs
+
+looked-bits-requires : tie.Need-looked-bits-requires
+looked-bits-requires c κs = search needs
+
+returns : tie.Need-returns
+returns c =
+    let d = c .before in
+    let s = d .before .before .before .before in
+    cut-read (λ p. wrongNode (s .args .nodes) (getD (s .args .t3) p 0)) (s .args .looked) (s .pre)
+    (d .before .before .before .wrong-node .ensures) (d .before .before .wrong-node2 .ensures) (d .before .wrong-node3 .ensures) (d .wrong-node4 .ensures) (c .looked-bits .ensures)
+
+pub node-marks-spec : {M : Type 1} → statement M
+node-marks-spec =
+    tie.close
+    (tie.spec
+    array-read-wrong-node
+    wrong-node-requires
+    array-read-wrong-node-2
+    wrong-node-requires-2
+    array-read-wrong-node-3
+    wrong-node-requires-3
+    array-read-wrong-node-4
+    wrong-node-requires-4
+    looked-bits-requires
+    returns)
