@@ -69,9 +69,6 @@ module _ (n : ℕ) (frame : Frame) (face : Face) where
   l = face .left
 
   -- the ways through the code
-  pub sides-same : r ≡ l → (r ≡ 0 → ⊥) → not (eqb r 0) ≡ sideFault n frame face
-  sides-same e h = rw (ne-eqb r 0 h) (sym (beside-same c r l (face .ztype) e h) ∙ side-is)
-
   pub sides-zero : r ≡ l → r ≡ 0 → not (eqb c 0) ≡ sideFault n frame face
   sides-zero e h = beside-zero c r l (face .ztype) e h ∙ side-is
 
@@ -87,7 +84,7 @@ module _ (n : ℕ) (frame : Frame) (face : Face) where
   pub sides-open-left : (r ≡ l → ⊥) → r ≤ c → l ≤ c → (r ≡ 0 → ⊥) → l ≡ 0 → isIn (face .ztype) interior ≡ sideFault n frame face
   sides-open-left d h k q e = beside-open-left c r l (face .ztype) d h k q e ∙ side-is
 
-  pub sides-inner : (r ≡ l → ⊥) → r ≤ c → l ≤ c → (r ≡ 0 → ⊥) → (l ≡ 0 → ⊥) → false ≡ sideFault n frame face
+  sides-inner : (r ≡ l → ⊥) → r ≤ c → l ≤ c → (r ≡ 0 → ⊥) → (l ≡ 0 → ⊥) → false ≡ sideFault n frame face
   sides-inner d h k p q = beside-inner c r l (face .ztype) d h k p q ∙ side-is
 
   -- where both are cells

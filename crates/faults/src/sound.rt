@@ -82,18 +82,21 @@ pub fn any_node_fault(frame: Frame, face: Face) -> bool
     true
 }
 
-// Whether the face has a fault of the kinds 4 to 7. Sides that differ, with no cell above C, leave kind 6 alone.
+// Whether the face has a fault of the kinds 4 to 7. A face without a left cell is asked for early: on the boundary each is one.
 pub fn any_side_fault(frame: Frame, face: Face) -> bool
     ensures { λ r. ⌜ r ≡ sideFault places frame face ⌝ }
 {
     let cells = frame.cells;
     let right = face.right;
     let left = face.left;
-    if right == left {
-        return right != 0 || cells != 0;
-    }
     if cells < right {
         return true;
+    }
+    if left == 0 {
+        if right == 0 {
+            return cells != 0;
+        }
+        return is_interior(face.ztype);
     }
     if cells < left {
         return true;
@@ -101,8 +104,5 @@ pub fn any_side_fault(frame: Frame, face: Face) -> bool
     if right == 0 {
         return is_interior(face.ztype);
     }
-    if left == 0 {
-        return is_interior(face.ztype);
-    }
-    false
+    right == left
 }
