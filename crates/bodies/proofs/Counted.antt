@@ -14,16 +14,13 @@ use lib.Pow.{pow-add, pow-pos}
 use Rattle.facts.proofs.Branch.{split, either, differ}
 use Rattle.tokens.specs.Tokens.{isBlank}
 use Rattle.numbers.specs.Whole.{digitOf, Digits, digitsIn}
-use Rattle.numbers.specs.Lanes.{lanes, Under, Laned, marksOf}
+use Rattle.numbers.specs.Lanes.{lanes, Under, Laned, marksOf, unlikeOf}
 use Rattle.numbers.proofs.Laning.{Small, sum-apart, lanes-append, lanes-lt}
-use Rattle.numbers.proofs.Grouping.{each, each-is, markOf, map-same, small-and, both, same, whole, masked, added, marks-in}
+use Rattle.numbers.proofs.Grouping.{each, each-is, markOf, map-same, small-and, both, same, whole, masked, marks-in, unlike, small-unlike, unlike-in}
 use Rattle.numbers.proofs.Gathered.{gathered-count}
-use Rattle.bodies.specs.Blocks.{unlikeOf, blanksOf, carryOf, wordsOf, isHex, Plain, one, ends, tail, Fair, Read}
+use Rattle.bodies.specs.Blocks.{blanksOf, carryOf, wordsOf, isHex, Plain, one, ends, tail, Fair, Read}
 
 -- ---- blanks
-abbrev unlike : ℕ → ℕ → ℕ
-unlike b c = bitOr (bitAnd (bitXor b c) 127 + 127) (bitXor b c)
-
 abbrev blank : ℕ → ℕ
 blank b = bitXor (bitAnd (bitAnd (bitAnd (unlike b 32) (unlike b 10)) (unlike (bitAnd b 251) 9)) 128) 128
 
@@ -36,25 +33,7 @@ blanks-all = refl
 blank-is : (b : ℕ) → b < 256 → blank b ≡ blankOf b
 blank-is b h = eqb-true _ _ (each-is 256 (λ c. eqb (blank c) (blankOf c)) blanks-all b h)
 
-small-xor : (g : ℕ → ℕ) (c : ℕ) → Small g → c < 256 → Small (λ b. bitXor (g b) c)
-small-xor g c s l b h = xor-lt 8 (g b) c (s b h) l
-
-small-sum : (g : ℕ → ℕ) → Small (λ b. bitAnd (g b) 127 + 127)
-small-sum g b h = omega (arith, and-le-r (g b) 127)
-
-small-unlike : (g : ℕ → ℕ) (c : ℕ) → Small g → c < 256 → Small (λ b. unlike (g b) c)
-small-unlike g c s l b h = or-lt 8 (bitAnd (bitXor (g b) c) 127 + 127) (bitXor (g b) c) (small-sum (λ d. bitXor (g d) c) b h) (xor-lt 8 (g b) c (s b h) l)
-
 module _ (w : List ℕ) (n : length w ≡ 8) (u : Under 256 w) where
-  unlike-in : (g : ℕ → ℕ) (c k : ℕ) {x : ℕ} → Small g → c < 256 → k ≡ lanes 8 (replicate 8 c) → x ≡ lanes 8 (map g w) → unlikeOf x k ≡ lanes 8 (map (λ b. unlike (g b) c) w)
-  unfolding lanes
-  unlike-in g c k s l e p =
-      let y = both w n u bitXor xor-block refl g (λ _. c) s (λ b h. l) p (same w n u c k e) in
-      let sy = small-xor g c s l in
-      let low = both w n u bitAnd and-block refl (λ b. bitXor (g b) c) (λ _. 127) sy (λ b h. lit< tt) y (same w n u 127 0x7f7f7f7f7f7f7f7f refl) in
-      let sum = added w n u (λ b. bitAnd (bitXor (g b) c) 127) 127 0x7f7f7f7f7f7f7f7f (small-and (λ b. bitXor (g b) c) 127 (lit< tt)) (lit< tt) refl low in
-      both w n u bitOr or-block refl (λ b. bitAnd (bitXor (g b) c) 127 + 127) (λ b. bitXor (g b) c) (small-sum (λ b. bitXor (g b) c)) sy sum y
-
   pub blanks-in : blanksOf (lanes 8 w) ≡ lanes 8 (map blankOf w)
   unfolding lanes
   blanks-in =
@@ -64,9 +43,9 @@ module _ (w : List ℕ) (n : length w ≡ 8) (u : Under 256 w) where
       let s₁ = small-unlike (λ b. b) 32 si (lit< tt) in
       let s₂ = small-unlike (λ b. b) 10 si (lit< tt) in
       let s₃ = small-unlike (λ b. bitAnd b 251) 9 sm (lit< tt) in
-      let a = unlike-in (λ b. b) 32 0x2020202020202020 si (lit< tt) refl (whole w n u) in
-      let b = unlike-in (λ b. b) 10 0x0a0a0a0a0a0a0a0a si (lit< tt) refl (whole w n u) in
-      let c = unlike-in (λ b. bitAnd b 251) 9 0x0909090909090909 sm (lit< tt) refl (masked w n u 251 0xfbfbfbfbfbfbfbfb (lit< tt) refl) in
+      let a = unlike-in w n u (λ b. b) 32 0x2020202020202020 si (lit< tt) refl (whole w n u) in
+      let b = unlike-in w n u (λ b. b) 10 0x0a0a0a0a0a0a0a0a si (lit< tt) refl (whole w n u) in
+      let c = unlike-in w n u (λ b. bitAnd b 251) 9 0x0909090909090909 sm (lit< tt) refl (masked w n u 251 0xfbfbfbfbfbfbfbfb (lit< tt) refl) in
       let ab = both w n u bitAnd and-block refl (λ b. unlike b 32) (λ b. unlike b 10) s₁ s₂ a b in
       let sab : Small (λ b. bitAnd (unlike b 32) (unlike b 10)) = λ b h. and-lt 8 _ _ (s₁ b h) (s₂ b h) in
       let abc = both w n u bitAnd and-block refl (λ b. bitAnd (unlike b 32) (unlike b 10)) (λ b. unlike (bitAnd b 251) 9) sab s₃ ab c in

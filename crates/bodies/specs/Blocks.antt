@@ -9,7 +9,7 @@ use lib.Dec.{ltb, leb}
 use lib.ListN.{length}
 use Rattle.tokens.specs.Tokens.{isBlank}
 use Rattle.numbers.specs.Whole.{digitOf}
-use Rattle.numbers.specs.Lanes.{Laned}
+use Rattle.numbers.specs.Lanes.{Laned, unlikeOf}
 use Rattle.tokens.specs.Listed.{tokensFrom}
 use Rattle.layout.specs.Reading.{rowsOf}
 use Rattle.bodies.specs.declared.blocks.Block.{Block}
@@ -18,10 +18,6 @@ use Rattle.bodies.specs.declared.rows.Word.{Word}
 use Rattle.bodies.specs.Bodies.{forget, wordUnit}
 
 -- ---- what the code computes in all lanes at once
-
--- the highest bit of each lane that is unlike c's
-abbrev pub unlikeOf : ℕ → ℕ → ℕ
-unlikeOf x c = bitOr (bitAnd (bitXor x c) 0x7f7f7f7f7f7f7f7f + 0x7f7f7f7f7f7f7f7f) (bitXor x c)
 
 -- the highest bit of each lane in which a blank stands
 abbrev pub blanksOf : ℕ → ℕ

@@ -1,7 +1,7 @@
 // Hexadecimal words in blocks of eight bytes: where nothing but digits and blanks stands, words are counted by their ends.
 ghost use mathlib.Core.Path.{_≡_};
 ghost use Prim.Native.Nat.{_≤_};
-ghost use Rattle.bodies.specs.Blocks.{unlikeOf, blanksOf, carryOf, wordsOf, BlockIs, goesFor, Gone};
+ghost use Rattle.bodies.specs.Blocks.{blanksOf, carryOf, wordsOf, BlockIs, goesFor, Gone};
 
 // The highest bit of each lane.
 const HIGHS: u64 = 0x8080808080808080;
@@ -18,23 +18,14 @@ pub struct Rest {
     pub left: usize,
 }
 
-fn unlike(x: u64, c: u64) -> u64
-    ensures { λ r. ⌜ r ≡ unlikeOf x c ⌝ }
-{
-    let y = x ^ c;
-    let low = y & 0x7f7f7f7f7f7f7f7f;
-    let sum = low + 0x7f7f7f7f7f7f7f7f;
-    sum | y
-}
-
 // 9 and 13 differ in one bit.
 fn blanks(x: u64) -> u64
     ensures { λ r. ⌜ r ≡ blanksOf x ⌝ }
 {
-    let space = unlike(x, 0x2020202020202020);
-    let line = unlike(x, 0x0a0a0a0a0a0a0a0a);
+    let space = numbers::unlike(x, 0x2020202020202020);
+    let line = numbers::unlike(x, 0x0a0a0a0a0a0a0a0a);
     let masked = x & 0xfbfbfbfbfbfbfbfb;
-    let others = unlike(masked, 0x0909090909090909);
+    let others = numbers::unlike(masked, 0x0909090909090909);
     let both = space & line;
     let all = both & others;
     let high = all & HIGHS;

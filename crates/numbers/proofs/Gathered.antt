@@ -25,14 +25,14 @@ zerosOf hex w = trailingZeros (8 * length w) (lanes 8 (map (markOf hex) w))
 
 module _ (hex : Bool) where
   -- a digit's lane is 0
-  passed : (w : List ℕ) (l : ℕ) → trailingZeros (8 * suc (length w)) (l * 2 ^ 8 + 0) ≡ 8 + trailingZeros (8 * length w) l
+  pub passed : (w : List ℕ) (l : ℕ) → trailingZeros (8 * suc (length w)) (l * 2 ^ 8 + 0) ≡ 8 + trailingZeros (8 * length w) l
   passed w l =
       let e : 8 * suc (length w) ≡ 8 + 8 * length w = omega arith in
       let f : l * 2 ^ 8 + 0 ≡ l * 2 ^ 8 = omega arith in
       ap₂ trailingZeros e f ∙ trailing-shift 8 (8 * length w) l
 
   -- another's lane ends in seven zeros
-  stopped : (w : List ℕ) (l : ℕ) → trailingZeros (8 * suc (length w)) (l * 2 ^ 8 + 128) ≡ 7
+  pub stopped : (w : List ℕ) (l : ℕ) → trailingZeros (8 * suc (length w)) (l * 2 ^ 8 + 128) ≡ 7
   unfolding trailingZeros
   stopped w l =
       let e : 8 * suc (length w) ≡ 7 + suc (8 * length w) = omega arith in

@@ -13,7 +13,7 @@ use lib.Pow.{shl-shr}
 use Rattle.facts.proofs.Branch.{split, differ}
 use Rattle.facts.proofs.Decides.{and-split}
 use Rattle.numbers.specs.Whole.{digitOf}
-use Rattle.numbers.specs.Lanes.{lanes, Under, figuresOf, lettersOf, shownOf, marksOf, valuesOf, pairedOf, foldedOf, baseOf}
+use Rattle.numbers.specs.Lanes.{lanes, Under, figuresOf, lettersOf, shownOf, marksOf, valuesOf, pairedOf, foldedOf, baseOf, unlikeOf}
 use Rattle.numbers.proofs.Laning.{Small, Apart, sum-apart, lanewise, lanes-times, under-more, evens, pairUp, paired-lanes, paired-under, paired-half, written, paired-written, written-alone}
 
 -- ---- a question asked of every byte
@@ -110,6 +110,19 @@ small-and g c l b h = lt-of-le-of-lt (and-le-r (g b) c) l
 small-tens : Small (λ b. bitAnd b 64 / 64 * 9)
 small-tens b h = omega (arith, and-le-r b 64, div-mul-le-self (bitAnd b 64) 64)
 
+-- ---- lanes that are unlike a byte
+abbrev pub unlike : ℕ → ℕ → ℕ
+unlike b c = bitOr (bitAnd (bitXor b c) 127 + 127) (bitXor b c)
+
+small-xor : (g : ℕ → ℕ) (c : ℕ) → Small g → c < 256 → Small (λ b. bitXor (g b) c)
+small-xor g c s l b h = xor-lt 8 (g b) c (s b h) l
+
+small-sum : (g : ℕ → ℕ) → Small (λ b. bitAnd (g b) 127 + 127)
+small-sum g b h = omega (arith, and-le-r (g b) 127)
+
+pub small-unlike : (g : ℕ → ℕ) (c : ℕ) → Small g → c < 256 → Small (λ b. unlike (g b) c)
+small-unlike g c s l b h = or-lt 8 (bitAnd (bitXor (g b) c) 127 + 127) (bitXor (g b) c) (small-sum (λ d. bitXor (g d) c) b h) (xor-lt 8 (g b) c (s b h) l)
+
 module _ (w : List ℕ) (n : length w ≡ 8) (u : Under 256 w) where
   abbrev pub In : (ℕ → ℕ) → ℕ → Type 0
   In g x = x ≡ lanes 8 (map g w)
@@ -132,6 +145,15 @@ module _ (w : List ℕ) (n : length w ≡ 8) (u : Under 256 w) where
 
   pub added : (g : ℕ → ℕ) (c x : ℕ) {y : ℕ} → Small g → c < 256 → x ≡ lanes 8 (replicate 8 c) → In g y → In (λ b. g b + c) (y + x)
   added g c x s l e p = both (λ a b. a + b) sum-apart refl g (λ _. c) s (λ b h. l) p (same c x e)
+
+  pub unlike-in : (g : ℕ → ℕ) (c k : ℕ) {x : ℕ} → Small g → c < 256 → k ≡ lanes 8 (replicate 8 c) → x ≡ lanes 8 (map g w) → unlikeOf x k ≡ lanes 8 (map (λ b. unlike (g b) c) w)
+  unfolding lanes
+  unlike-in g c k s l e p =
+      let y = both bitXor xor-block refl g (λ _. c) s (λ b h. l) p (same c k e) in
+      let sy = small-xor g c s l in
+      let low = both bitAnd and-block refl (λ b. bitXor (g b) c) (λ _. 127) sy (λ b h. lit< tt) y (same 127 0x7f7f7f7f7f7f7f7f refl) in
+      let sum = added (λ b. bitAnd (bitXor (g b) c) 127) 127 0x7f7f7f7f7f7f7f7f (small-and (λ b. bitXor (g b) c) 127 (lit< tt)) (lit< tt) refl low in
+      both bitOr or-block refl (λ b. bitAnd (bitXor (g b) c) 127 + 127) (λ b. bitXor (g b) c) (small-sum (λ b. bitXor (g b) c)) sy sum y
 
   figures-in : {x : ℕ} → In low x → In (λ b. figure (low b)) (figuresOf x)
   unfolding lanes

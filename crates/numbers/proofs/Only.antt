@@ -5,6 +5,7 @@ use Rattle.numbers.proofs.coordinates.coordinate.Reads as coordinate
 use Rattle.numbers.proofs.quick.hexes_in.Reads as hexes-in
 use Rattle.numbers.proofs.group.marks.Reads as marks
 use Rattle.numbers.proofs.lanes.bytes_at.Reads as bytes-at
+use Rattle.numbers.proofs.lanes.unlike.Reads as unlike
 use Rattle.numbers.proofs.leads.lead.Reads as lead
 use Rattle.numbers.proofs.mild.mild_in.Reads as mild-in
 use Rattle.numbers.proofs.signed.magnitude.Reads as magnitude
@@ -41,3 +42,6 @@ marks-only κ a r r′ x x′ p q = p ∙ sym q
 
 pub bytes-at-only : Only bytes-at.Post
 bytes-at-only κ a r r′ x x′ p q = p .same ∙ sym (q .same)
+
+pub unlike-only : Only unlike.Post
+unlike-only κ a r r′ x x′ p q = p ∙ sym q

@@ -50,6 +50,10 @@ valuesOf hex x =
       | false ↦ bitAnd x 0x0f0f0f0f0f0f0f0f
     ]
 
+-- the highest bit of each lane that is unlike c's
+abbrev pub unlikeOf : ℕ → ℕ → ℕ
+unlikeOf x c = bitOr (bitAnd (bitXor x c) 0x7f7f7f7f7f7f7f7f + 0x7f7f7f7f7f7f7f7f) (bitXor x c)
+
 -- neighbouring lanes as one number to the base b; `apart` is 2 to the bits of a lane
 abbrev pub pairedOf : ℕ → ℕ → ℕ → ℕ → ℕ
 pairedOf apart mask b y = bitAnd y mask * b + bitAnd (y / apart) mask

@@ -2,7 +2,7 @@
 ghost use mathlib.Core.Path.{_≡_};
 ghost use Prim.Native.Nat.{_+_, _-_, _≤_, _<_};
 ghost use lib.ListN.{length, take, drop};
-ghost use Rattle.numbers.specs.Lanes.{Laned};
+ghost use Rattle.numbers.specs.Lanes.{Laned, unlikeOf};
 
 fn wide(b: u8) -> u64
     ensures { λ r. ⌜ (r ≡ b) × (r < 256) ⌝ }
@@ -68,4 +68,14 @@ pub fn bytes_at(w: &[u8], at: usize) -> u64
         return eight_at(w, at);
     }
     few_at(w, at)
+}
+
+// The highest bit of each of eight bytes that is unlike c's.
+pub fn unlike(x: u64, c: u64) -> u64
+    ensures { λ r. ⌜ r ≡ unlikeOf x c ⌝ }
+{
+    let y = x ^ c;
+    let low = y & 0x7f7f7f7f7f7f7f7f;
+    let sum = low + 0x7f7f7f7f7f7f7f7f;
+    sum | y
 }

@@ -19,6 +19,7 @@ pub use decimal::Decimal;
 pub use decimal::Lead;
 pub use group::marks;
 pub use lanes::bytes_at;
+pub use lanes::unlike;
 pub use leads::lead;
 pub use mild::Mild;
 pub use mild::mild_in;

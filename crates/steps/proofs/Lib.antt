@@ -8,4 +8,5 @@ pub mod Knowing
 pub mod Stepping
 pub mod Chain
 pub mod Alike
+mod Strings
 pub mod Only

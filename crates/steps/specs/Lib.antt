@@ -2,3 +2,4 @@ pub mod Views
 pub mod Heads
 pub mod Quick
 pub mod Pairs
+pub mod Quotes

@@ -2,6 +2,7 @@
 mod head;
 mod pairs;
 mod quick;
+mod quotes;
 mod skip;
 mod step;
 

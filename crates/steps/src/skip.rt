@@ -4,6 +4,7 @@ ghost use lib.ListN.{length};
 ghost use Rattle.tokens.specs.Listed.{tokensFrom};
 ghost use Rattle.layout.specs.Reading.{skip};
 ghost use Rattle.steps.specs.Views.{PastAt};
+use super::quotes::quote_from;
 use super::step::Bad;
 use super::step::Past;
 use layout::Refusal;
@@ -50,7 +51,7 @@ pub fn skip_from(s: &[u8], at: usize) -> Past
             c = inside;
             continue;
         }
-        let end = (Cursor { at: inside }).quote(s);
+        let end = quote_from(s, inside);
         if size <= end {
             return no(Refusal::Grammar, m);
         }

@@ -5,6 +5,7 @@ pub mod Bounds
 pub mod Listed
 pub mod Marks
 pub mod Marked
+pub mod Quoted
 pub mod Blanked
 mod Runs
 mod TextOf

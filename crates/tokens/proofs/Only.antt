@@ -6,7 +6,6 @@ use Rattle.tokens.proofs.Cursor.token.Reads as token
 use Rattle.tokens.proofs.Cursor.start.Reads as start
 use Rattle.tokens.proofs.Cursor.ends_word.Reads as ends-word
 use Rattle.tokens.proofs.Cursor.mark.Reads as mark
-use Rattle.tokens.proofs.Cursor.quote.Reads as quote
 use Rattle.tokens.proofs.is_blank.Reads as is-blank
 
 pub new-only : Only new.Post
@@ -23,9 +22,6 @@ ends-word-only κ a r r′ x x′ p q = p ∙ sym q
 
 pub mark-only : Only mark.Post
 mark-only κ a r r′ x x′ p q = p ∙ sym q
-
-pub quote-only : Only quote.Post
-quote-only κ a r r′ x x′ p q = p ∙ sym q
 
 pub is-blank-only : Only is-blank.Post
 is-blank-only κ a r r′ x x′ p q = p ∙ sym q

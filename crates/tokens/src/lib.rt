@@ -1,6 +1,6 @@
 // Tokens of a text mesh: a cursor by value, and what stands at it.
 ghost use mathlib.Core.Path.{_≡_};
-ghost use Rattle.tokens.specs.Tokens.{isBlank, classOf, goesOn, runAt, startOf, markOf, quoteOf, endsWord, stepOf, textTo, tokenOf, tokenAt};
+ghost use Rattle.tokens.specs.Tokens.{isBlank, classOf, goesOn, runAt, startOf, markOf, endsWord, stepOf, textTo, tokenOf, tokenAt};
 
 // What a byte is to the tokeniser.
 enum Class {
@@ -143,14 +143,6 @@ impl Cursor {
     {
         let at = self.at;
         run_end(s, at, Run::Plain)
-    }
-
-    // The first quote at or behind the cursor. Without one, as `start`.
-    pub fn quote(self, s: &[u8]) -> usize
-        ensures { λ r. ⌜ r ≡ quoteOf (now (s .entry)) (self .at) ⌝ }
-    {
-        let at = self.at;
-        run_end(s, at, Run::Text)
     }
 
     // Whether a word that reaches the cursor ends there.

@@ -14,7 +14,7 @@ use Rattle.steps.proofs.skip.skip_from.Reads as reads
 use Rattle.steps.proofs.skip.skip_from.Lts as lts
 use Rattle.steps.proofs.skip.no.Reads as no-reads
 use Rattle.tokens.proofs.Cursor.mark.Reads as mark-reads
-use Rattle.tokens.proofs.Cursor.quote.Reads as quote-reads
+use Rattle.steps.proofs.quotes.quote_from.Reads as quote-from-reads
 
 abbrev Inv-loop : tie.InvT-loop
 Inv-loop s at size c₀ d₀ c d = Left s at c d
@@ -83,8 +83,8 @@ loop-again-2 : tie.Need-loop-again-2 Inv-loop μ-loop
 loop-again-2 c = skip-close _ _ _ _ (skip-on _ _ _ _ _ (c .before .before .before .before .before .before .loop .inv) (c .before .before .before .before .before .mark .ensures)) _ (mark-right _ _ (omega (arith, c .before .before .before .before .if1 .left)) (c .before .if4 .taken)) refl (c .if5 .left)
 
 -- src/skip.rt:52:13
-quote-requires : tie.Need-quote-requires Inv-loop μ-loop
-quote-requires c κs = search needs
+quote-from-requires : tie.Need-quote-from-requires Inv-loop μ-loop
+quote-from-requires c κs = search needs
 
 -- src/skip.rt:54:13
 no-requires-3 : tie.Need-no-requires-3 Inv-loop μ-loop
@@ -92,7 +92,7 @@ no-requires-3 c κs = search needs
 
 -- src/skip.rt:54:13
 returns-4 : tie.Need-returns-4 Inv-loop μ-loop
-returns-4 c = rw (c .no3 .ensures) (skip-cut _ _ _ _ (skip-on _ _ _ _ _ (c .before .before .before .before .before .before .before .before .loop .inv) (c .before .before .before .before .before .before .before .mark .ensures)) _ (mark-cut _ _ _ (c .before .before .before .before .before .before .before .mark .ensures) (omega (arith, c .before .before .before .before .before .before .if1 .left)) (c .before .before .before .before .if2 .left) (c .before .before .before .if4 .left) _ (c .before .before .quote .ensures) (c .before .if6 .taken)) refl)
+returns-4 c = rw (c .no3 .ensures) (skip-cut _ _ _ _ (skip-on _ _ _ _ _ (c .before .before .before .before .before .before .before .before .loop .inv) (c .before .before .before .before .before .before .before .mark .ensures)) _ (mark-cut _ _ _ (c .before .before .before .before .before .before .before .mark .ensures) (omega (arith, c .before .before .before .before .before .before .if1 .left)) (c .before .before .before .before .if2 .left) (c .before .before .before .if4 .left) _ (c .before .before .quote-from .ensures) (c .before .if6 .taken)) refl)
 
 -- src/skip.rt:56:13
 add-c : tie.Need-add-c Inv-loop μ-loop
@@ -100,11 +100,11 @@ add-c c = search needs
 
 -- src/skip.rt:28:5
 loop-less-3 : tie.Need-loop-less-3 Inv-loop μ-loop
-loop-less-3 c = let v = moved _ _ _ Token.Text (mark-text _ _ _ (c .before .before .before .before .before .before .mark .ensures) (omega (arith, c .before .before .before .before .before .if1 .left)) (c .before .before .before .if2 .left) (c .before .before .if4 .left) _ (c .before .quote .ensures) (omega (arith, c .if6 .left))) refl tt in omega (arith, mark-ahead _ _ _ (c .before .before .before .before .before .before .mark .ensures))
+loop-less-3 c = let v = moved _ _ _ Token.Text (mark-text _ _ _ (c .before .before .before .before .before .before .mark .ensures) (omega (arith, c .before .before .before .before .before .if1 .left)) (c .before .before .before .if2 .left) (c .before .before .if4 .left) _ (c .before .quote-from .ensures) (omega (arith, c .if6 .left))) refl tt in omega (arith, mark-ahead _ _ _ (c .before .before .before .before .before .before .mark .ensures))
 
 -- src/skip.rt:28:5
 loop-again-3 : tie.Need-loop-again-3 Inv-loop μ-loop
-loop-again-3 c = skip-text _ _ _ _ (skip-on _ _ _ _ _ (c .before .before .before .before .before .before .before .loop .inv) (c .before .before .before .before .before .before .mark .ensures)) _ (mark-text _ _ _ (c .before .before .before .before .before .before .mark .ensures) (omega (arith, c .before .before .before .before .before .if1 .left)) (c .before .before .before .if2 .left) (c .before .before .if4 .left) _ (c .before .quote .ensures) (omega (arith, c .if6 .left))) refl
+loop-again-3 c = skip-text _ _ _ _ (skip-on _ _ _ _ _ (c .before .before .before .before .before .before .before .loop .inv) (c .before .before .before .before .before .before .mark .ensures)) _ (mark-text _ _ _ (c .before .before .before .before .before .before .mark .ensures) (omega (arith, c .before .before .before .before .before .if1 .left)) (c .before .before .before .if2 .left) (c .before .before .if4 .left) _ (c .before .quote-from .ensures) (omega (arith, c .if6 .left))) refl
 
 pub skip-from-spec : {M : Type 1} → statement M
 skip-from-spec =
@@ -127,7 +127,7 @@ skip-from-spec =
     sub-d
     loop-less-2
     loop-again-2
-    quote-requires
+    quote-from-requires
     no-requires-3
     returns-4
     add-c

@@ -2,10 +2,10 @@ use lib.Bits.{bitXor, and-le-r}
 use borrow.Author.Needs.{needs}
 use native.Mathlib.Omega.{arith}
 use borrow.Author.Needs.{needs}
-use Rattle.bodies.proofs.blocks.unlike.Statement.{statement}
-use Rattle.bodies.proofs.blocks.unlike.Tie as tie
-use Rattle.bodies.proofs.blocks.unlike.Reads as reads
-use Rattle.bodies.proofs.blocks.unlike.Lts as lts
+use Rattle.numbers.proofs.lanes.unlike.Statement.{statement}
+use Rattle.numbers.proofs.lanes.unlike.Tie as tie
+use Rattle.numbers.proofs.lanes.unlike.Reads as reads
+use Rattle.numbers.proofs.lanes.unlike.Lts as lts
 
 -- src/blocks.rt:20:15
 add-sum : tie.Need-add-sum
