@@ -327,17 +327,6 @@ module _ (x t none : ℕ) (e : none ≡ marksOf true x) (same-lanes : none ≡ b
         last = omega (arith, top);
       }
 
-pub carry-none : (t : ℕ) → t ≡ 0 → 0 ≡ carryOf t
-carry-none t e = ap carryOf (sym e)
-
 pub carry-some : (t : ℕ) → (t ≡ 0 → ⊥) → 128 ≡ carryOf t
 carry-some zero h = absurd (h refl)
 carry-some (suc t) h = refl
-
-tail-step : (w : List ℕ) (t : ℕ) → ((k : ℕ) → k ≤ 8 → Fair k w → tail k w ≤ 8) → (q : Bool) → Chosen q ((suc t ≤ 8) × Fair (suc t) w) (Fair 0 w) → chosen q (tail (suc t) w) (tail 0 w) ≤ 8
-tail-step w t ih true f = ih (suc t) (f .0) (f .1)
-tail-step w t ih false f = ih 0 zero-le f
-
-pub tail-few : (w : List ℕ) (t : ℕ) → t ≤ 8 → Fair t w → tail t w ≤ 8
-tail-few [] t h f = h
-tail-few (b ∷ w) t h f = tail-step w t (λ k l g. tail-few w k l g) (isHex b) f

@@ -44,10 +44,6 @@ module _ (base : ℕ) where
       worth-from a (v * base + d)
       ∙ omega (arith, worth-from a (0 * base + d), add-mul (v * base) d p, mul-assoc v base p, ap (λ (k : ℕ). v * k) (pow-succ' base (length a)), add-mul (0 * base) d p)
 
-begins-front : (P : ℕ → Type 0) (a r : List ℕ) → 0 < length a → Begins P a → Begins P (a ++ r)
-begins-front P [] r h b = absurd (omega arith)
-begins-front P (c ∷ a) r h b = b
-
 -- ---- what a group of eight bytes says of the bytes from a place on
 pub record Found (w : List ℕ) (at : ℕ) (g : Group) : Type 0 where
   pub run : List ℕ

@@ -1,4 +1,4 @@
--- Bytes side by side in one number, the first lowest, and digits among them. Nothing here has to be believed: the public contracts do not cite it. Assumes nothing.
+-- Bytes side by side in one number, the first lowest, and digits among them. No mesher need read it: only contracts of functions that look at eight bytes at once cite it, none of reading. Assumes nothing.
 use Prim.Native.Nat.{ℕ, zero, suc, _+_, _*_, _/_, _^_, _≤_, _<_}
 use mathlib.Core.Path.{_≡_}
 use mathlib.Core.List.{List, [], _∷_}

@@ -1,4 +1,4 @@
-use Rattle.bodies.proofs.Counted.{carry-none, carry-some}
+use Rattle.bodies.proofs.Counted.{carry-some}
 use borrow.Author.Needs.{needs}
 use native.Mathlib.Omega.{arith}
 use borrow.Author.Needs.{needs}
