@@ -5,7 +5,7 @@ use native.Mathlib.Omega.{arith}
 use mathlib.Core.Path.{_≡_, refl, sym, ap, _∙_}
 use mathlib.Core.Bool.{Bool, true, false}
 use mathlib.Core.List.{List, []}
-use lib.Dec.{eqb, lit<, lit≤}
+use lib.Dec.{eqb, lit<}
 use Rattle.facts.proofs.Branch.{split}
 use Rattle.mesh.specs.declared.Face.{Face}
 use Rattle.mesh.specs.Rows.{places, faceAt}
@@ -15,9 +15,8 @@ use Rattle.faults.specs.Over.{each, packed}
 use Rattle.faults.specs.Faults.{positionsOf, hasFault, faultIf, faultAt, faultsOfKind}
 use Rattle.faults.specs.Sides.{one}
 use Rattle.faults.specs.Marked.{kindMarks, marksOf}
-use Rattle.faults.proofs.Any.{few-positions}
 use Rattle.faults.proofs.Sides.{one-most}
-use Rattle.faults.proofs.Marked.{packed-digit, packed-rest, packed-some, packed-empty, cut-small}
+use Rattle.faults.proofs.Marked.{packed-digit, packed-rest, packed-some, packed-empty, kind-small}
 use Rattle.audit.specs.declared.Stand.{Stand}
 use Rattle.audit.specs.Steps.{Visited}
 
@@ -37,10 +36,6 @@ module _ (frame : Frame) (face : Face) where
   unfolding kindMarks
   bits-all k = let e : positionsOf places face k - 0 ≡ positionsOf places face k = omega arith in rw e
 
-  kind-small : (k : ℕ) → kindMarks places frame face k < 16
-  unfolding kindMarks
-  kind-small k = cut-small (hasFault places frame face k) (positionsOf places face k) (few-positions places face k (lit≤ tt))
-
   pub kinds-all : {r : ℕ} → r ≡ marksOf places frame face → r ≡ kindsLeft 1
   unfolding marksOf
   kinds-all e = e
@@ -50,10 +45,10 @@ module _ (frame : Frame) (face : Face) where
     kinds-some h = packed-some 16 (kindMarks places frame face) k k 8 (rw e at h)
 
     pub kinds-here : k < 8 → m % 16 ≡ bitsLeft k 0
-    kinds-here h = ap (λ (x : ℕ). x % 16) e ∙ packed-digit 16 (kindMarks places frame face) k k 8 h (kind-small k) ∙ bits-all k
+    kinds-here h = ap (λ (x : ℕ). x % 16) e ∙ packed-digit 16 (kindMarks places frame face) k k 8 h (kind-small frame face k) ∙ bits-all k
 
     pub kinds-rest : k < 8 → m / 16 ≡ kindsLeft (k + 1)
-    kinds-rest h = ap (λ (x : ℕ). x / 16) e ∙ packed-rest 16 (kindMarks places frame face) k k 8 h (kind-small k)
+    kinds-rest h = ap (λ (x : ℕ). x / 16) e ∙ packed-rest 16 (kindMarks places frame face) k k 8 h (kind-small frame face k)
 
   module _ (k p : ℕ) {m : ℕ} (e : m ≡ bitsLeft k p) where
     pub bits-some : 0 < m → p < positionsOf places face k

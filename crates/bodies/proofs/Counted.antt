@@ -13,11 +13,11 @@ use lib.Count.{ones, ones-cat, trailingZeros, leadingZeros, leading-top, leading
 use lib.Pow.{pow-add, pow-pos}
 use Rattle.facts.proofs.Branch.{split, either, differ}
 use Rattle.tokens.specs.Tokens.{isBlank}
-use Rattle.numbers.specs.Whole.{digitOf, Digits, digitsIn}
-use Rattle.numbers.specs.Lanes.{lanes, Under, Laned, marksOf, unlikeOf}
-use Rattle.numbers.proofs.Laning.{Small, sum-apart, lanes-append, lanes-lt}
-use Rattle.numbers.proofs.Grouping.{each, each-is, markOf, map-same, small-and, both, same, whole, masked, marks-in, unlike, small-unlike, unlike-in}
-use Rattle.numbers.proofs.Gathered.{gathered-count}
+use Rattle.digits.specs.Digits.{digitOf, Digits, digitsIn}
+use Rattle.digits.specs.Lanes.{lanes, Under, Laned, marksOf, unlikeOf}
+use Rattle.digits.proofs.Laning.{Small, sum-apart, lanes-append, lanes-lt}
+use Rattle.digits.proofs.Grouping.{each, each-is, markOf, map-same, small-and, both, same, whole, masked, marks-in, unlike, small-unlike, unlike-in}
+use Rattle.digits.proofs.Gathered.{gathered-count}
 use Rattle.bodies.specs.Blocks.{blanksOf, carryOf, wordsOf, isHex, Plain, one, ends, tail, Fair, Read}
 
 -- ---- blanks

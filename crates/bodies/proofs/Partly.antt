@@ -16,12 +16,12 @@ use Rattle.tokens.specs.Listed.{tokensFrom}
 use Rattle.tokens.proofs.Blanked.{blank-on, blank-ends, start-here}
 use Rattle.layout.specs.Reading.{Reader, rowsOf}
 use Rattle.numbers.specs.declared.whole.Whole.{Whole}
-use Rattle.numbers.specs.declared.quick.Hexes.{Hexes}
-use Rattle.numbers.specs.Whole.{digitOf, hexadecimalOf}
-use Rattle.numbers.specs.Hexes.{hexesOf}
-use Rattle.numbers.specs.Value.{Figures, worth}
-use Rattle.numbers.specs.Lanes.{Laned}
-use Rattle.numbers.proofs.Digits.{Begins, NoDigit, figures-append}
+use Rattle.digits.specs.declared.quick.Hexes.{Hexes}
+use Rattle.digits.specs.Digits.{digitOf, Figures, worth}
+use Rattle.numbers.specs.Whole.{hexadecimalOf}
+use Rattle.digits.specs.Hexes.{hexesOf}
+use Rattle.digits.specs.Lanes.{Laned}
+use Rattle.digits.proofs.Digits.{Begins, NoDigit, figures-append}
 use Rattle.numbers.proofs.Pieces.{wholeOf-exact}
 use Rattle.numbers.proofs.AtOnce.{hexes-all, digit-high}
 use Rattle.steps.specs.declared.step.Past.{Past}

@@ -10,10 +10,10 @@ use Rattle.layout.specs.Items.{Kind, node, cell, face, Perhaps, absent, given, 
 use Rattle.layout.specs.Reading.{Got, got, bad, Reader, rowsOf, pairWord, enclosedOf}
 use Rattle.layout.specs.Sections.{elementOf, facingOf, mixedOf, bodyOf}
 use Rattle.steps.specs.declared.step.Past.{Past}
-use Rattle.steps.specs.declared.head.Fifth.{Fifth}
+use Rattle.heads.specs.declared.head.Fifth.{Fifth}
 use Rattle.bodies.specs.declared.rows.Row.{Row}
 use Rattle.bodies.specs.declared.bodies.Shape.{Shape}
-use Rattle.steps.specs.Heads.{fifthFor}
+use Rattle.heads.specs.Heads.{fifthFor}
 use Rattle.bodies.specs.Bodies.{forget, rowUnit, cellShape, faceShape, shapeOf, LooseAt}
 use Rattle.bodies.proofs.Loose.{kept, enclosed-forget, loose-is}
 

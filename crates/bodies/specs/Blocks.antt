@@ -8,8 +8,8 @@ use lib.Count.{ones}
 use lib.Dec.{ltb, leb}
 use lib.ListN.{length}
 use Rattle.tokens.specs.Tokens.{isBlank}
-use Rattle.numbers.specs.Whole.{digitOf}
-use Rattle.numbers.specs.Lanes.{Laned, unlikeOf}
+use Rattle.digits.specs.Digits.{digitOf}
+use Rattle.digits.specs.Lanes.{Laned, unlikeOf}
 use Rattle.tokens.specs.Listed.{tokensFrom}
 use Rattle.layout.specs.Reading.{rowsOf}
 use Rattle.bodies.specs.declared.blocks.Block.{Block}

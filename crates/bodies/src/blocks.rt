@@ -22,10 +22,10 @@ pub struct Rest {
 fn blanks(x: u64) -> u64
     ensures { λ r. ⌜ r ≡ blanksOf x ⌝ }
 {
-    let space = numbers::unlike(x, 0x2020202020202020);
-    let line = numbers::unlike(x, 0x0a0a0a0a0a0a0a0a);
+    let space = digits::unlike(x, 0x2020202020202020);
+    let line = digits::unlike(x, 0x0a0a0a0a0a0a0a0a);
     let masked = x & 0xfbfbfbfbfbfbfbfb;
-    let others = numbers::unlike(masked, 0x0909090909090909);
+    let others = digits::unlike(masked, 0x0909090909090909);
     let both = space & line;
     let all = both & others;
     let high = all & HIGHS;
@@ -56,7 +56,7 @@ fn block_of(x: u64, tail: u32) -> Block
     requires { ⌜ tail ≤ 8 ⌝ }
     ensures { λ r. ⌜ BlockIs x tail r ⌝ }
 {
-    let none = numbers::marks(x, true);
+    let none = digits::marks(x, true);
     let blank = blanks(x);
     if none == blank {
         if none == 0 {
@@ -101,7 +101,7 @@ pub(crate) fn blocks_past(s: &[u8], at: usize, n: usize) -> Rest
     let mut left = n;
     let size = s.len();
     while goes_for(left, c, size) {
-        let x = numbers::bytes_at(s, c);
+        let x = digits::bytes_at(s, c);
         match block_of(x, tail) {
             Block::Not => {
                 let back = tail as usize;

@@ -15,6 +15,13 @@ four a b c d = one a + (2 * one b + (4 * one c + 8 * one d))
 unfoldable pub kindMarks : ℕ → Frame → Face → ℕ → ℕ
 kindMarks n frame face kind = packed 2 (λ p. one (hasFault n frame face kind p)) 0 (positionsOf n face kind)
 
+-- of the nodes, kinds 1 to 3, and of the sides, kinds 4 to 7: n bits a kind
+unfoldable pub nodePart : ℕ → Frame → Face → ℕ
+nodePart n frame face = packed (2 ^ n) (kindMarks n frame face) 1 3
+
+unfoldable pub sidePart : ℕ → Frame → Face → ℕ
+sidePart n frame face = packed (2 ^ n) (kindMarks n frame face) 4 4
+
 -- the faults of a face: n bits a kind, those of kind 1 the lowest
 unfoldable pub marksOf : ℕ → Frame → Face → ℕ
 marksOf n frame face = packed (2 ^ n) (kindMarks n frame face) 1 7

@@ -1,4 +1,5 @@
-// The faults of a face as one number, so that each test is made once: a bit a position, four bits a kind.
+// The faults of a face as one number: a bit a position, four bits a kind. The marks of the nodes and those of the sides are made only where there is
+// such a fault.
 use super::Frame;
 use super::faces::is_loose;
 use super::faces::is_open;
@@ -6,6 +7,8 @@ use super::faces::is_same;
 use super::faces::looked_at;
 use super::faces::wrong_count;
 use super::faces::wrong_node;
+use super::sound::any_node_fault;
+use super::sound::any_side_fault;
 use super::sound::is_one_of_three;
 use super::sound::is_one_of_two;
 use mesh::Face;
@@ -18,7 +21,13 @@ ghost use Rattle.mesh.specs.Rows.{places};
 ghost use Rattle.faults.specs.Over.{packed};
 ghost use Rattle.faults.specs.Faults.{wrongNode, isIn};
 ghost use Rattle.faults.specs.Sides.{one};
-ghost use Rattle.faults.specs.Marked.{four, marksOf};
+ghost use Rattle.faults.specs.Marked.{four, nodePart, sidePart, marksOf};
+
+// With fewer nodes looked at, the third and the fourth are not read.
+const SOLID_LEAST: u32 = 3;
+
+// The marks of the sides stand above those of the nodes, which are three kinds of four bits.
+const ABOVE_NODES: u32 = 4096;
 
 fn bit(test: bool) -> u32
     ensures { λ r. ⌜ r ≡ one test ⌝ }
@@ -59,6 +68,9 @@ fn node_marks(nodes: u32, looked: u32, row: [u32; 4]) -> u32
 {
     let a = wrong_node(nodes, row[0]);
     let b = wrong_node(nodes, row[1]);
+    if looked < SOLID_LEAST {
+        return looked_bits(looked, a, b, false, false);
+    }
     let c = wrong_node(nodes, row[2]);
     let d = wrong_node(nodes, row[3]);
     looked_bits(looked, a, b, c, d)
@@ -70,6 +82,9 @@ fn again_marks(looked: u32, row: [u32; 4]) -> u32
 {
     let a = row[0];
     let b = row[1];
+    if looked < SOLID_LEAST {
+        return looked_bits(looked, false, a == b, false, false);
+    }
     let c = row[2];
     let d = row[3];
     let second = is_one_of_two(a, b, c);
@@ -77,38 +92,50 @@ fn again_marks(looked: u32, row: [u32; 4]) -> u32
     looked_bits(looked, false, a == b, second, third)
 }
 
-fn join(
-    first: u32,
-    second: u32,
-    third: u32,
-    fourth: u32,
-    fifth: u32,
-    sixth: u32,
-    seventh: u32,
-) -> u32
-    requires { ⌜ (first < 16) × (second < 16) × (third < 16) × (fourth < 16) × (fifth < 16) × (sixth < 16) × (seventh < 16) ⌝ }
-    ensures { λ r. ⌜ r ≡ first + 16 * (second + 16 * (third + 16 * (fourth + 16 * (fifth + 16 * (sixth + 16 * seventh))))) ⌝ }
+// Four kinds as one number, the first the lowest.
+fn join(first: u32, second: u32, third: u32, fourth: u32) -> u32
+    requires { ⌜ (first < 16) × (second < 16) × (third < 16) × (fourth < 16) ⌝ }
+    ensures { λ r. ⌜ r ≡ first + 16 * (second + 16 * (third + 16 * fourth)) ⌝ }
 {
-    let from_sixth = sixth + 16 * seventh;
-    let from_fifth = fifth + 16 * from_sixth;
-    let from_fourth = fourth + 16 * from_fifth;
-    let from_third = third + 16 * from_fourth;
+    let from_third = third + 16 * fourth;
     let from_second = second + 16 * from_third;
     first + 16 * from_second
+}
+
+fn node_part(frame: Frame, face: Face) -> u32
+    ensures { λ r. ⌜ r ≡ nodePart places frame face ⌝ }
+{
+    let faulty = any_node_fault(frame, face);
+    if faulty {
+        let row = face.nodes;
+        let looked = looked_at(face.count);
+        let first = bit(wrong_count(frame.dim, face.count));
+        let second = node_marks(frame.nodes, looked, row);
+        let third = again_marks(looked, row);
+        return join(first, second, third, 0);
+    }
+    0
+}
+
+fn side_part(frame: Frame, face: Face) -> u32
+    ensures { λ r. ⌜ r ≡ sidePart places frame face ⌝ }
+{
+    let faulty = any_side_fault(frame, face);
+    if faulty {
+        let cells = frame.cells;
+        let fourth = bits(cells < face.right, cells < face.left, false, false);
+        let fifth = bit(is_same(face));
+        let sixth = bit(is_open(cells, face));
+        let seventh = bit(is_loose(cells, face));
+        return join(fourth, fifth, sixth, seventh);
+    }
+    0
 }
 
 pub fn marks_of(frame: Frame, face: Face) -> u32
     ensures { λ r. ⌜ r ≡ marksOf places frame face ⌝ }
 {
-    let cells = frame.cells;
-    let row = face.nodes;
-    let looked = looked_at(face.count);
-    let first = bit(wrong_count(frame.dim, face.count));
-    let second = node_marks(frame.nodes, looked, row);
-    let third = again_marks(looked, row);
-    let fourth = bits(cells < face.right, cells < face.left, false, false);
-    let fifth = bit(is_same(face));
-    let sixth = bit(is_open(cells, face));
-    let seventh = bit(is_loose(cells, face));
-    join(first, second, third, fourth, fifth, sixth, seventh)
+    let of_nodes = node_part(frame, face);
+    let of_sides = side_part(frame, face);
+    of_nodes + ABOVE_NODES * of_sides
 }

@@ -1,4 +1,3 @@
-pub mod Listing
 pub mod Keeping
 pub mod Judging
 pub mod Only

@@ -10,10 +10,6 @@ use Rattle.judging.proofs.judge.seen_of.Reads as seen-of
 use Rattle.judging.proofs.judge.unless.Reads as unless
 use Rattle.judging.proofs.kept.is_clear.Reads as is-clear
 use Rattle.judging.proofs.kept.is_tiled.Reads as is-tiled
-use Rattle.judging.proofs.listed.dim_after.Reads as dim-after
-use Rattle.judging.proofs.listed.dim_agrees.Reads as dim-agrees
-use Rattle.judging.proofs.listed.dim_listed.Reads as dim-listed
-use Rattle.judging.proofs.listed.dim_word.Reads as dim-word
 
 pub decl-judged-only : Only decl-judged.Post
 decl-judged-only κ a r r′ x x′ p q = p ∙ sym q
@@ -41,15 +37,3 @@ is-clear-only κ a r r′ x x′ p q = p ∙ sym q
 
 pub is-tiled-only : Only is-tiled.Post
 is-tiled-only κ a r r′ x x′ p q = p ∙ sym q
-
-pub dim-after-only : Only dim-after.Post
-dim-after-only κ a r r′ x x′ p q = p ∙ sym q
-
-pub dim-agrees-only : Only dim-agrees.Post
-dim-agrees-only κ a r r′ x x′ p q = p ∙ sym q
-
-pub dim-listed-only : Only dim-listed.Post
-dim-listed-only κ a r r′ x x′ p q = p ∙ sym q
-
-pub dim-word-only : Only dim-word.Post
-dim-word-only κ a r r′ x x′ p q = p ∙ sym q

@@ -1,39 +1,19 @@
 -- The code's judgement of a section's words, in the order of the table of refusals. Assumes nothing.
-use Prim.Native.Nat.{ℕ, zero, suc, _-_}
-use mathlib.Core.Bool.{Bool, true, false, _&&_, _||_, not}
-use lib.Dec.{leb, eqb}
+use Prim.Native.Nat.{ℕ, suc, _-_}
+use mathlib.Core.Bool.{Bool, true, false, _&&_, not}
+use lib.Dec.{leb}
 use Rattle.layout.specs.declared.Refusal.{Refusal}
 use Rattle.layout.specs.State.{dimAfter, dimListed, typeListed, fifthListed, fitsIn, declRange, partRange, zoneFits}
-use Rattle.layout.specs.Items as Items
-use Rattle.layout.specs.Keeps as Keeps
-use Rattle.steps.specs.declared.head.Kind.{Kind}
-use Rattle.steps.specs.declared.head.Fifth.{Fifth}
-use Rattle.judging.specs.declared.listed.Limit.{Limit}
+use Rattle.heads.specs.declared.head.Kind.{Kind}
+use Rattle.listing.specs.declared.listed.Limit.{Limit}
 use Rattle.steps.specs.declared.step.Bad.{Bad}
-use Rattle.steps.specs.declared.head.Head.{Head}
+use Rattle.heads.specs.declared.head.Head.{Head}
 use Rattle.judging.specs.declared.judge.Seen.{Seen}
 use Rattle.judging.specs.declared.judge.State.{State}
 use Rattle.judging.specs.declared.judge.Room.{Room}
 use Rattle.judging.specs.declared.judge.Judged.{Judged}
-use Rattle.steps.specs.Heads.{kindFor, fifthFor}
-
-abbrev pub limitFor : Limit → Keeps.Limit
-limitFor Limit.Unlimited = Keeps.unlimited
-limitFor (Limit.Most n) = Keeps.most n
-
-abbrev pub dimWordFor : Kind → Fifth → Fifth
-dimWordFor Kind.Node v = v
-dimWordFor Kind.Cell v = Fifth.Absent
-dimWordFor Kind.Face v = Fifth.Absent
-
-abbrev pub agrees : ℕ → Items.Perhaps → Bool
-agrees d Items.absent = true
-agrees d (Items.given n) = eqb d 0 || eqb d n
-
-abbrev pub known : Kind → ℕ → Bool
-known Kind.Node d = not (eqb d 0)
-known Kind.Cell d = true
-known Kind.Face d = true
+use Rattle.heads.specs.Heads.{kindFor, fifthFor}
+use Rattle.listing.specs.Listing.{limitFor, dimWordFor, agrees, known}
 
 abbrev pub seenOf : State → Kind → Seen
 seenOf x Kind.Node = x .nodes

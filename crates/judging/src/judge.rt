@@ -1,22 +1,22 @@
 // A header judged by what came before it, in the order of the refusals' numbers: each function is built from the last test to the first.
 ghost use mathlib.Core.Path.{_≡_};
 ghost use Rattle.judging.specs.Judging.{test, seenOf, idFor, roomOf, declJudged, wordsJudged, partJudged, countFor};
-use super::listed::Limit;
-use super::listed::decl_range;
-use super::listed::dim_after;
-use super::listed::dim_agrees;
-use super::listed::dim_known;
-use super::listed::dim_listed;
-use super::listed::dim_word;
-use super::listed::fifth_listed;
-use super::listed::fits_in;
-use super::listed::part_range;
-use super::listed::type_listed;
-use super::listed::zone_fits;
+use heads::Head;
+use heads::Kind;
 use layout::Refusal;
+use listing::Limit;
+use listing::decl_range;
+use listing::dim_after;
+use listing::dim_agrees;
+use listing::dim_known;
+use listing::dim_listed;
+use listing::dim_word;
+use listing::fifth_listed;
+use listing::fits_in;
+use listing::part_range;
+use listing::type_listed;
+use listing::zone_fits;
 use steps::Bad;
-use steps::Head;
-use steps::Kind;
 
 // Of one kind: whether it was declared, and its total.
 pub struct Seen {

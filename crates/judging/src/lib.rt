@@ -1,7 +1,6 @@
-// Headers judged by what came before them: ranges, room, lists of types, the sections met so far.
+// Headers judged by what came before them, and the sections met so far.
 mod judge;
 mod kept;
-mod listed;
 
 pub use judge::Judged;
 pub use judge::Room;
@@ -16,8 +15,3 @@ pub use judge::seen_of;
 pub use judge::unless;
 pub use kept::is_clear;
 pub use kept::is_tiled;
-pub use listed::Limit;
-pub use listed::dim_after;
-pub use listed::dim_agrees;
-pub use listed::dim_listed;
-pub use listed::dim_word;

@@ -9,7 +9,8 @@ use lib.ListN.{length, getD}
 use Rattle.facts.specs.Text.{bytes}
 use Rattle.tokens.specs.Listed.{Tok, left, right, word}
 use Rattle.numbers.specs.declared.whole.Whole.{Whole}
-use Rattle.numbers.specs.Whole.{hexadecimalOf, digitOf, digitsIn, wholeOf}
+use Rattle.digits.specs.Digits.{digitOf, digitsIn}
+use Rattle.numbers.specs.Whole.{hexadecimalOf, wholeOf}
 use Rattle.mesh.specs.declared.Zone.{Zone}
 use Rattle.mesh.specs.Rows.{places, faceWords}
 use Rattle.layout.specs.Items.{Kind, face, Header, Facet, Body, facets, Item, part}

@@ -1,49 +1,21 @@
--- Hexadecimal digits at the start of some bytes: the laws of the code, and that they are the number of the word that they make. Assumes nothing.
-use Prim.Native.Nat.{ℕ, suc, zero, _+_, _-_, _*_, _%_, _^_, _≤_, _<_, min, zero-le}
-use native.Mathlib.Nat.{lt-of-lt-of-le, pow-le-pow-right}
+-- Hexadecimal digits at the start of some bytes: that they are the number of the word that they make. Assumes nothing.
+use Prim.Native.Nat.{ℕ, suc, zero, _+_, _≤_, _<_}
 use native.Mathlib.Omega.{arith}
-use mathlib.Core.Path.{_≡_, refl, sym, ap, subst, _∙_}
+use mathlib.Core.Path.{_≡_, sym, ap, subst, _∙_}
 use mathlib.Core.List.{List, [], _∷_, _++_}
-use mathlib.Core.Bool.{Bool, true, false, _&&_}
-use borrow.Author.Tests.{le-leb, lt-leb, leb-true}
-use lib.Dec.{leb, ltb, lit<}
-use lib.ListN.{length, take, drop, getD, length-append}
-use lib.Seq.{take-append-seam, take-all}
+use borrow.Author.Tests.{le-leb, leb-true}
+use lib.Dec.{leb}
+use lib.ListN.{length, take, getD, length-append}
+use lib.Seq.{take-append-seam}
 use Rattle.facts.proofs.Branch.{split, either}
+use Rattle.digits.specs.declared.quick.Hexes.{Hexes}
+use Rattle.digits.specs.Digits.{within, digitOf, Digits, digitsIn, Figures}
+use Rattle.digits.specs.Hexes.{hexesBy, hexesOf}
+use Rattle.digits.proofs.Digits.{within-is, Run, digitsIn-part, digitsIn-exact, Begins, NoDigit}
 use Rattle.numbers.specs.declared.whole.Whole.{Whole}
-use Rattle.numbers.specs.declared.quick.Hexes.{Hexes}
-use Rattle.numbers.specs.declared.group.Group.{Group}
-use Rattle.numbers.specs.Lanes.{Laned, groupBy, Grouped}
-use Rattle.numbers.specs.Whole.{within, digitOf, Digits, digits, digitsIn, hexadecimalOf}
-use Rattle.numbers.specs.Value.{Figures}
-use Rattle.numbers.specs.Hexes.{hexesBy, hexesOf}
-use Rattle.numbers.proofs.Digits.{within-is, Run, digitsIn-below, digitsIn-part, digitsIn-exact, Begins, NoDigit}
+use Rattle.numbers.specs.Whole.{hexadecimalOf}
 use Rattle.numbers.proofs.Pieces.{wholeOf-exact, wholeOf-exactly}
 
--- ---- what is read
-module _ (w : List ℕ) where
-  pub hexes-long : 8 < length w → record { value = 0; count = 0 } ≡ hexesOf w
-  unfolding hexesOf
-  hexes-long h = rw (lt-leb (length w) 8 h, hexesOf)
-
-  -- the digits of all the bytes at once
-  pub hexes-grouped : (x : ℕ) (g : Group) → length w ≤ 8 → Laned (take 8 (drop 0 w)) x → Grouped true x g → g ≡ groupBy (digitsIn 16 0 0 w)
-  hexes-grouped x g h l s =
-      let e : take 8 (drop 0 w) ≡ w = take-all 8 w h in
-      s .says w (subst (λ v. Laned v x) e l) h
-
-  pub hexes-are : (g : Group) → length w ≤ 8 → g ≡ groupBy (digitsIn 16 0 0 w) → record { value = g .value; count = g .count } ≡ hexesOf w
-  unfolding hexesOf
-  hexes-are g h e = ap (λ (d : Group). record { value = d .value; count = d .count }) e ∙ rw (le-leb (length w) 8 h, hexesOf)
-
-  pub hexes-small : (g : Group) → length w ≤ 8 → g ≡ groupBy (digitsIn 16 0 0 w) → g .value < 2 ^ 32
-  hexes-small g h e =
-      let r = digitsIn-part 16 w 0 0 in
-      let d = digitsIn 16 0 0 w in
-      let few : d .count ≤ 8 = omega (arith, h, r .count, ap length (r .parted), length-append (r .run) (d .rest)) in
-      subst (λ (v : ℕ). v < 2 ^ 32) (sym (ap (λ (d : Group). d .value) e)) (lt-of-lt-of-le (digitsIn-below 16 w 0 0 (lit< tt)) (pow-le-pow-right (lit< tt) few))
-
--- ---- as a word
 figure-at : (run rest : List ℕ) (i : ℕ) → Figures 16 run → i < length run → digitOf (getD (run ++ rest) i 0) < 16
 figure-at [] rest i f h = absurd (omega arith)
 figure-at (b ∷ run) rest zero f h = f .0

@@ -12,9 +12,10 @@ use lib.ListN.{length, drop, getD, drop-of-length-le}
 use lib.Seq.{drop-cons}
 use Rattle.facts.proofs.Branch.{either}
 use Rattle.numbers.specs.declared.whole.Whole.{Whole}
-use Rattle.numbers.specs.Whole.{digitOf, Digits, digits, digitsIn, isEmpty, within, wholeBy, wholeOf}
+use Rattle.digits.specs.Digits.{digitOf, Digits, digits, digitsIn, within}
+use Rattle.numbers.specs.Whole.{isEmpty, wholeBy, wholeOf}
 use Rattle.numbers.specs.Parts.{Below}
-use Rattle.numbers.proofs.Digits.{and-right, within-is, digitsIn-below}
+use Rattle.digits.proofs.Digits.{and-right, within-is, digitsIn-below}
 use Rattle.numbers.proofs.Places.{digitsIn-stop, digitsIn-past}
 use Rattle.numbers.proofs.Pieces.{wholeBy-is, wholeOf-exactly}
 

@@ -13,13 +13,12 @@ use lib.ListN.{length, take, drop, length-append, length-take, length-drop, take
 use lib.Seq.{drop-drop, drop-append-seam}
 use Rattle.facts.proofs.Branch.{split}
 use Rattle.numbers.specs.declared.scan.Scan.{Scan}
-use Rattle.numbers.specs.declared.group.Group.{Group}
-use Rattle.numbers.specs.Whole.{digitOf, Digits, digits, digitsIn}
+use Rattle.digits.specs.declared.group.Group.{Group}
+use Rattle.digits.specs.Digits.{digitOf, Digits, digits, digitsIn, Figures, worth}
 use Rattle.numbers.specs.Mild.{behindOf}
-use Rattle.numbers.specs.Value.{Figures, worth}
-use Rattle.numbers.specs.Lanes.{Laned, groupBy, Grouped}
+use Rattle.digits.specs.Lanes.{Laned, groupBy, Grouped}
 use Rattle.numbers.specs.Parts.{Wide, Stands, scan, joined, Roomy, Fair, Shows, Scanned}
-use Rattle.numbers.proofs.Digits.{Run, Begins, NoDigit, digitsIn-part, digitsIn-below, digitsIn-alike, digitsIn-stops}
+use Rattle.digits.proofs.Digits.{Run, Begins, NoDigit, digitsIn-part, digitsIn-below, digitsIn-alike, digitsIn-stops}
 use Rattle.numbers.proofs.Scanning.{Runs, wide-more, shown}
 
 -- ---- some digits in front
@@ -183,8 +182,16 @@ module _ (w : List ℕ) (at : ℕ) (g : Group) (o : Found w at g) where
   run-stop h = omega (arith, ap (λ (d : Digits). d .count) (digitsIn-none 10 (drop (at + g .count) w) 0 0 (o .ended h)))
 
   -- where digits are passed they are in the word
-  pub run-inside : (0 < g .count) → at + g .count ≤ length w
+  run-inside : (0 < g .count) → at + g .count ≤ length w
   run-inside h = omega (arith, ap length (o .parted), length-append (o .run) (drop (at + g .count) w), length-drop at w, o .long)
+
+  -- eight digits
+  module _ (h : 8 ≤ g .count) where
+    pub run-eight : behindOf w (at + 8) ≡ behindOf w at
+    run-eight = let z : at + 8 ≡ at + g .count = omega (arith, h, o .few) in ap (behindOf w) z ∙ run-more
+
+    pub eight-inside : at + 8 ≤ length w
+    eight-inside = omega (arith, h, run-inside (omega (arith, h)))
 
   pub run-fits : at < 2 ^ 64 → length w < 2 ^ 64 → at + g .count < 2 ^ 64
   run-fits h l = split (ltb 0 (g .count)) (λ p. omega (arith, l, run-inside (ltb-true 0 (g .count) p))) (λ p. omega (arith, h, ltb-false 0 (g .count) p))

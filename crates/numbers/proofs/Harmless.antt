@@ -16,12 +16,12 @@ use Rattle.facts.proofs.Signed.{mag-neg, mag-sum}
 use Rattle.numbers.specs.declared.power.Power.{Power}
 use Rattle.numbers.specs.declared.decimal.Decimal.{Decimal}
 use Rattle.numbers.specs.declared.mild.Mild.{Mild}
-use Rattle.numbers.specs.Whole.{Digits}
+use Rattle.digits.specs.Digits.{Digits}
 use Rattle.numbers.specs.Coordinate.{signOf, signIn, fractionIn, isMark, readingBy, frontOf, backOf, inRange, keep, kept}
 use Rattle.numbers.specs.Lead.{Leading, markedIn, powerIn, tensOf, leadOf}
 use Rattle.numbers.specs.Parts.{keepBy}
 use Rattle.numbers.specs.Mild.{fewDigits, smallPower, mildOf}
-use Rattle.numbers.proofs.Digits.{within-is, digitsIn-below, digitsIn-after}
+use Rattle.digits.proofs.Digits.{within-is, digitsIn-below, digitsIn-after}
 use Rattle.numbers.proofs.Tens.{cutAs, at-least, pos-of, few}
 use Rattle.numbers.proofs.Scaled.{Tens, tens-of}
 use Rattle.numbers.proofs.Value.{keep-zero, keep-tens, fitted-in}

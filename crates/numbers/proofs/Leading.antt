@@ -18,11 +18,11 @@ use Rattle.numbers.specs.declared.scan.Sign.{Sign}
 use Rattle.numbers.specs.declared.scan.Scan.{Scan}
 use Rattle.numbers.specs.declared.decimal.Decimal.{Decimal}
 use Rattle.numbers.specs.declared.decimal.Lead.{Lead}
-use Rattle.numbers.specs.Whole.{within, Digits, digitsIn}
+use Rattle.digits.specs.Digits.{within, Digits, digitsIn}
 use Rattle.numbers.specs.Coordinate.{signOf, Signed, signIn, fractionIn, isMark, readingBy, frontOf, backOf, kept}
 use Rattle.numbers.specs.Lead.{Leading, leading, tensBy, markedIn, powerIn, tensOf, leadOf}
 use Rattle.numbers.specs.Parts.{SignAt, PowerAt, Stands, Shows, Scanned, Mild, keepBy}
-use Rattle.numbers.proofs.Digits.{within-is, digitsIn-below}
+use Rattle.digits.proofs.Digits.{within-is, digitsIn-below}
 use Rattle.numbers.proofs.Tens.{at-least}
 use Rattle.numbers.proofs.Kept.{mild-sign}
 use Rattle.numbers.proofs.Words.{start, digits-shown, no-digits, some-digits, back-shows, counts}

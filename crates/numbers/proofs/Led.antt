@@ -14,11 +14,11 @@ use Rattle.facts.proofs.Branch.{either}
 use Rattle.numbers.specs.declared.power.Power.{Power}
 use Rattle.numbers.specs.declared.decimal.Decimal.{Decimal}
 use Rattle.numbers.specs.declared.decimal.Lead.{Lead}
-use Rattle.numbers.specs.Whole.{within}
+use Rattle.digits.specs.Digits.{within, Figures}
 use Rattle.numbers.specs.Coordinate.{signOf, signIn, isMark, Parts, Reading, is, none, readingBy, frontOf, backOf, kept, coordinateOf}
-use Rattle.numbers.specs.Value.{Figures, SignText, unsigned, plus, minus, PointText, plain, pointed, PowerText, unpowered, powered, Written}
+use Rattle.numbers.specs.Value.{SignText, unsigned, plus, minus, PointText, plain, pointed, PowerText, unpowered, powered, Written}
 use Rattle.numbers.specs.Lead.{isPart, Leading, tensBy, markedIn, powerIn, tensOf, leadOf}
-use Rattle.numbers.proofs.Digits.{within-is, decimal-byte, digitsIn-part, figures-left, figures-right}
+use Rattle.digits.proofs.Digits.{within-is, decimal-byte, digitsIn-part, figures-left, figures-right}
 use Rattle.numbers.proofs.Pieces.{is-mark, signIn-part, Powers}
 use Rattle.numbers.proofs.Written.{read-is, begun, readingOf-exactly}
 use Rattle.numbers.proofs.Exactly.{not-kept}

@@ -1,4 +1,3 @@
-pub mod Digits
 pub mod Pieces
 pub mod Written
 mod Tens
@@ -19,8 +18,4 @@ mod Mildly
 pub mod Harmless
 pub mod Only
 pub mod Bad
-pub mod Laning
-pub mod Grouping
-pub mod Gathered
-mod Beside
 mod Eights

@@ -15,12 +15,12 @@ use Rattle.numbers.specs.declared.power.Power.{Power}
 use Rattle.numbers.specs.declared.power.PowerLead.{PowerLead}
 use Rattle.numbers.specs.declared.scan.Sign.{Sign}
 use Rattle.numbers.specs.declared.mild.Mild.{Mild}
-use Rattle.numbers.specs.Whole.{within, digitOf, Digits, digitsIn}
+use Rattle.digits.specs.Digits.{within, digitOf, Digits, digitsIn}
 use Rattle.numbers.specs.Coordinate.{Signed, signIn, fractionIn, isMark, frontOf, backOf}
 use Rattle.numbers.specs.Lead.{Leading, leading, tensBy, markedIn, powerIn, tensOf, leadOf}
 use Rattle.numbers.specs.Parts.{starts, SignAt, PowerAt}
 use Rattle.numbers.specs.Mild.{fewDigits, smallPower, mildOf, behindOf, pointOf, tensTo}
-use Rattle.numbers.proofs.Digits.{decimal-byte, byte-decimal, Begins, NoDigit, digitsIn-exact, digitsIn-part, digitsIn-alike, digitsIn-stops}
+use Rattle.digits.proofs.Digits.{decimal-byte, byte-decimal, Begins, NoDigit, digitsIn-exact, digitsIn-part, digitsIn-alike, digitsIn-stops}
 use Rattle.numbers.proofs.Places.{not-point, starts-past, digitsIn-more, digitsIn-stop, digitsIn-past, point-here}
 use Rattle.numbers.proofs.Pieces.{fractionIn-none}
 use Rattle.numbers.proofs.Leading.{past-lead, marked-lead, plain-lead}

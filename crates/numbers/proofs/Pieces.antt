@@ -12,10 +12,11 @@ use lib.IntN.{ℤ, pos}
 use Rattle.facts.proofs.Branch.{either, differ}
 use Rattle.numbers.specs.declared.whole.Whole.{Whole}
 use Rattle.numbers.specs.declared.power.Power.{Power}
-use Rattle.numbers.specs.Whole.{digitOf, Digits, digits, digitsIn, within, isEmpty, wholeBy, wholeOf}
+use Rattle.digits.specs.Digits.{digitOf, Digits, digits, digitsIn, within, Figures, worth}
+use Rattle.numbers.specs.Whole.{isEmpty, wholeBy, wholeOf}
 use Rattle.numbers.specs.Coordinate.{signOf, Signed, signed, signIn, fractionIn, isMark, powerBy, markedOf, powerOf}
-use Rattle.numbers.specs.Value.{Figures, worth, SignText, unsigned, plus, minus, PowerText, unpowered, powered}
-use Rattle.numbers.proofs.Digits.{Begins, decimal-byte, and-left, and-right, within-is, Run, digitsIn-exact, digitsIn-part}
+use Rattle.numbers.specs.Value.{SignText, unsigned, plus, minus, PowerText, unpowered, powered}
+use Rattle.digits.proofs.Digits.{Begins, decimal-byte, and-left, and-right, within-is, Run, digitsIn-exact, digitsIn-part}
 
 -- ---- the first byte of what follows
 abbrev pub NoSign : ℕ → Type 0

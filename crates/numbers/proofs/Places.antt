@@ -13,11 +13,11 @@ use lib.Seq.{drop-cons}
 use Rattle.facts.proofs.Branch.{split, differ}
 use Rattle.numbers.specs.declared.scan.Scan.{Scan}
 use Rattle.numbers.specs.declared.power.Power.{Power}
-use Rattle.numbers.specs.Whole.{digitOf, digits, digitsIn}
+use Rattle.digits.specs.Digits.{digitOf, digits, digitsIn}
 use Rattle.numbers.specs.Coordinate.{signIn, fractionIn, isMark, markedOf, powerOf}
 use Rattle.numbers.specs.Value.{unsigned}
 use Rattle.numbers.specs.Parts.{starts, SignAt, Stands, scan, Fair, Scanned}
-use Rattle.numbers.proofs.Digits.{Begins}
+use Rattle.digits.proofs.Digits.{Begins}
 use Rattle.numbers.proofs.Pieces.{NoSign, NoPoint, signIn-exact, fractionIn-none}
 
 neither : (l : List ℕ) → starts 45 l ≡ false → starts 43 l ≡ false → Begins NoSign l

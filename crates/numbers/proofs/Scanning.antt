@@ -11,7 +11,7 @@ use lib.Dec.{ltb, eqb}
 use lib.ListN.{length, drop, getD}
 use Rattle.facts.proofs.Branch.{split, either, differ}
 use Rattle.numbers.specs.declared.scan.Scan.{Scan}
-use Rattle.numbers.specs.Whole.{digitOf, Digits, digits, digitsIn}
+use Rattle.digits.specs.Digits.{digitOf, Digits, digits, digitsIn}
 use Rattle.numbers.specs.Parts.{Wide, Stands, grown, Fair, Shows, Scanned}
 use Rattle.numbers.proofs.Tens.{at-least, times-ten}
 use Rattle.numbers.proofs.Places.{digitsIn-more, digitsIn-stop, digitsIn-past}

@@ -14,7 +14,7 @@ use Rattle.numbers.specs.declared.decimal.Cut.{Cut}
 use Rattle.numbers.specs.declared.decimal.Decimal.{Decimal}
 use Rattle.numbers.specs.Coordinate.{signOf, inRange, fitted, keep}
 use Rattle.numbers.specs.Value.{SameValue, Canonical}
-use Rattle.numbers.proofs.Digits.{and-left, and-right}
+use Rattle.digits.proofs.Digits.{and-left, and-right}
 use Rattle.numbers.proofs.Tens.{cutAs, pos-of, at-least, cut-all}
 use Rattle.numbers.proofs.Scaled.{abs-sign, abs-times, sign-times, sign-is, tens-unique, swapped, regroup, cut-same, zero-same, same-refl, Tens, tens-of}
 

@@ -13,7 +13,7 @@ use Rattle.numbers.specs.declared.power.Power.{Power}
 use Rattle.numbers.specs.declared.scan.Sign.{Sign}
 use Rattle.numbers.specs.declared.scan.Scan.{Scan}
 use Rattle.numbers.specs.declared.decimal.Decimal.{Decimal}
-use Rattle.numbers.specs.Whole.{Digits, digitsIn}
+use Rattle.digits.specs.Digits.{Digits, digitsIn}
 use Rattle.numbers.specs.Coordinate.{Signed, signIn, fractionIn, powerOf, none, readingBy, frontOf, backOf, readingOf, kept, coordinateOf}
 use Rattle.numbers.specs.Parts.{SignAt, Stands, scan, Shows, Scanned, Ready, keepBy}
 

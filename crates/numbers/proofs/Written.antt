@@ -11,10 +11,10 @@ use lib.ListN.{length}
 use lib.IntN.{ℤ}
 use Rattle.facts.proofs.Branch.{either}
 use Rattle.numbers.specs.declared.power.Power.{Power}
-use Rattle.numbers.specs.Whole.{digitOf, Digits}
+use Rattle.digits.specs.Digits.{digitOf, Digits, Figures, worth}
 use Rattle.numbers.specs.Coordinate.{Signed, signIn, fractionIn, powerOf, Parts, is, partsOf, readingBy, frontOf, backOf, readingOf}
-use Rattle.numbers.specs.Value.{Figures, worth, SignText, PointText, plain, pointed, PowerText, Written}
-use Rattle.numbers.proofs.Digits.{NoDigit, digitsIn-exact, digitsIn-part, worth-append, figures-append, figures-left, figures-right}
+use Rattle.numbers.specs.Value.{SignText, PointText, plain, pointed, PowerText, Written}
+use Rattle.digits.proofs.Digits.{NoDigit, digitsIn-exact, digitsIn-part, worth-append, figures-append, figures-left, figures-right}
 use Rattle.numbers.proofs.Pieces.{
   NoSign,
   NoPoint,

@@ -12,7 +12,8 @@ use Rattle.numbers.specs.declared.whole.Whole.{Whole}
 use Rattle.numbers.specs.declared.power.Power.{Power}
 use Rattle.numbers.specs.declared.decimal.Cut.{Cut}
 use Rattle.numbers.specs.declared.decimal.Decimal.{Decimal}
-use Rattle.numbers.specs.Whole.{Digits, digits, digitsIn, wholeOf}
+use Rattle.digits.specs.Digits.{Digits, digits, digitsIn}
+use Rattle.numbers.specs.Whole.{wholeOf}
 
 abbrev pub signOf : Bool → ℕ → ℤ
 signOf true m = negℤ (pos m)

@@ -10,7 +10,7 @@ use Rattle.sizes.specs.Sizes.{coordinateBytes}
 use Rattle.numbers.specs.declared.power.Power.{Power}
 use Rattle.numbers.specs.declared.decimal.Decimal.{Decimal}
 use Rattle.numbers.specs.declared.decimal.Lead.{Lead}
-use Rattle.numbers.specs.Whole.{within, Digits}
+use Rattle.digits.specs.Digits.{within, Digits}
 use Rattle.numbers.specs.Coordinate.{signOf, signIn, isMark, readingBy, frontOf, backOf, kept}
 
 -- a byte that a coordinate may have: a digit, the point, the `e` or a sign

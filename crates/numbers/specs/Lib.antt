@@ -4,6 +4,4 @@ pub mod Lead
 pub mod Value
 pub mod Bad
 pub mod Parts
-pub mod Hexes
-pub mod Lanes
 pub mod Mild

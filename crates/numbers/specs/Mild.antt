@@ -7,7 +7,7 @@ use lib.ListN.{length, drop}
 use lib.Dec.{leb}
 use Rattle.sizes.specs.Sizes.{coordinateBytes, coordinateDigits}
 use Rattle.numbers.specs.declared.mild.Mild.{Mild}
-use Rattle.numbers.specs.Whole.{within, digitsIn}
+use Rattle.digits.specs.Digits.{within, digitsIn}
 use Rattle.numbers.specs.Coordinate.{isMark, frontOf, backOf}
 use Rattle.numbers.specs.Lead.{powerIn, leadOf}
 use Rattle.numbers.specs.Parts.{starts}

@@ -13,10 +13,10 @@ use Rattle.numbers.specs.declared.power.Power.{Power}
 use Rattle.numbers.specs.declared.power.PowerLead.{PowerLead}
 use Rattle.numbers.specs.declared.scan.Sign.{Sign}
 use Rattle.numbers.specs.declared.scan.Scan.{Scan}
-use Rattle.numbers.specs.declared.group.Group.{Group}
+use Rattle.digits.specs.declared.group.Group.{Group}
 use Rattle.numbers.specs.declared.decimal.Cut.{Cut}
 use Rattle.numbers.specs.declared.decimal.Decimal.{Decimal}
-use Rattle.numbers.specs.Whole.{Digits}
+use Rattle.digits.specs.Digits.{Digits}
 use Rattle.numbers.specs.Coordinate.{signed, signIn, keep}
 use Rattle.numbers.specs.Lead.{Leading, leading}
 

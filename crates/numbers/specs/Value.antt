@@ -1,5 +1,5 @@
 -- [01:Tokens], coordinates: what a word means, with no computation. To be believed: all of this file. Assumes nothing.
-use Prim.Native.Nat.{ℕ, _+_, _*_, _%_, _^_, _≤_, _<_}
+use Prim.Native.Nat.{ℕ, _+_, _%_, _^_, _≤_, _<_}
 use mathlib.Core.Path.{_≡_}
 use mathlib.Core.Logic.{_⊎_}
 use mathlib.Core.List.{List, [], _∷_, _++_}
@@ -8,18 +8,8 @@ use lib.ListN.{length}
 use lib.IntN.{ℤ, pos, negsuc, natAbs, _+ℤ_, _*ℤ_}
 use lib.Signed.{leZ}
 use Rattle.sizes.specs.Sizes.{coordinateBytes, coordinateDigits}
-use Rattle.numbers.specs.Whole.{digitOf}
+use Rattle.digits.specs.Digits.{Figures, worth}
 use Rattle.numbers.specs.Coordinate.{Parts, partsOf, signOf}
-
--- every byte is a digit to the base
-abbrev pub Figures : ℕ → List ℕ → Type 0
-Figures base [] = Unit
-Figures base (b ∷ w) = (digitOf b < base) × Figures base w
-
--- the number that digits write, behind a number v
-abbrev pub worth : ℕ → ℕ → List ℕ → ℕ
-worth base v [] = v
-worth base v (b ∷ w) = worth base (v * base + digitOf b) w
 
 -- "optional sign (`+` or `-`)"
 pub data SignText : List ℕ → Bool → Type 0 where

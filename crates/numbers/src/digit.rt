@@ -1,6 +1,6 @@
 // A byte as a digit.
 ghost use mathlib.Core.Path.{_≡_};
-ghost use Rattle.numbers.specs.Whole.{within, digitOf};
+ghost use Rattle.digits.specs.Digits.{within, digitOf};
 
 pub(crate) fn is_within(low: u8, high: u8, b: u8) -> bool
     ensures { λ r. ⌜ r ≡ within low high b ⌝ }

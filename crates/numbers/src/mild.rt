@@ -4,11 +4,11 @@ ghost use Prim.Native.Nat.{_≤_};
 ghost use lib.ListN.{length, drop};
 ghost use Rattle.numbers.specs.Mild.{mildOf, behindOf, pointOf, tensTo};
 use super::digit::is_within;
-use super::group::group_of;
-use super::lanes::bytes_at;
 use super::power::is_mark;
 use super::scan::sign_at;
 use super::scan::stands_at;
+use digits::bytes_at;
+use digits::group_of;
 
 // The place behind such a coordinate.
 pub enum Mild {
@@ -44,11 +44,12 @@ pub(crate) fn run_behind(w: &[u8], at: usize) -> usize
         let bytes = bytes_at(w, i);
         let g = group_of(bytes, false);
         let count = g.count;
-        let step = count as usize;
-        i += step;
         if count < 8 {
-            return i;
+            let step = count as usize;
+            let end = i + step;
+            return end;
         }
+        i += 8;
     }
 }
 

@@ -2,13 +2,13 @@
 ghost use mathlib.Core.Path.{_≡_};
 ghost use Prim.Native.Nat.{_^_, _≤_, _<_};
 ghost use lib.ListN.{length, drop};
-ghost use Rattle.numbers.specs.Whole.{digitsIn};
+ghost use Rattle.digits.specs.Digits.{digitsIn};
 ghost use Rattle.numbers.specs.Coordinate.{fractionIn};
 ghost use Rattle.numbers.specs.Parts.{starts, SignAt, Fair, Scanned, grown, joined, Roomy};
 use super::digit::digit_of;
-use super::group::Group;
-use super::group::group_of;
-use super::lanes::bytes_at;
+use digits::Group;
+use digits::bytes_at;
+use digits::group_of;
 
 // With 17 digits in m there is room for one more.
 const ROOM: u64 = 100000000000000000;
@@ -180,9 +180,10 @@ fn many_from(w: &[u8], from: Scan) -> Scan
         let bytes = bytes_at(w, at);
         let g = group_of(bytes, false);
         let n = g.count;
-        x = join(x, g);
-        if n < 8 {
-            return x;
+        if n == 8 {
+            x = join(x, g);
+        } else {
+            return join(x, g);
         }
     }
     digits_from(w, x)

@@ -17,8 +17,11 @@ use Rattle.layout.specs.Reading.{Got, got, bad, Reader, next, pure, hexWord, ro
 use Rattle.layout.specs.Sections.{hexOf, elementOf, facingOf, mixedOf}
 use Rattle.facts.proofs.Decides.{and-is, le-is}
 use Rattle.reader.specs.declared.rows.Form.{Form}
-use Rattle.reader.specs.Filling.{Then, Steps, mapped, rowRead, Placed, widthOf}
+use Rattle.reader.specs.Filling.{Then, Steps, TwoLeft, mapped, rowRead, Placed, widthOf}
 use Rattle.layout.proofs.Formed.{pad-length}
+use Rattle.steps.specs.declared.twos.Two.{Two}
+use Rattle.steps.specs.Twos.{TwoSays}
+use Rattle.reader.proofs.Known.{hex-known}
 use Rattle.reader.proofs.Steps.{then-always, then-more, then-next, then-check, steps-more, steps-with, steps-next, steps-pure, rows-length}
 use Rattle.reader.proofs.Puts.{sets-behind, pad-is, singles, repeated}
 use Rattle.reader.proofs.Rowing.{Going, Stored, going-start, going-more, going-end}
@@ -137,6 +140,29 @@ module _ (s : List ℕ) (at : ℕ) where
   mixed-never n m Q h l =
       steps-next s at (hexWord (length s) (tokensFrom s at)) _ Q h (omega arith)
       (λ x y. then-check (leb 2 (x .value) && leb (x .value) 4) Refusal.Type (x .at) (facingOf (length s) (x .value)) (tokensFrom s m) (λ f us. Q f × (tokensFrom s m ≡ us)) (λ b. absurd (let z = and-is (le-is 2 (x .value)) (le-is (x .value) 4) .0 b in omega (arith, z .1, y))))
+
+-- ---- two words found together
+pub left-two : (s : List ℕ) (at left : ℕ) (t : Two) → 2 ≤ left → TwoSays s at t → TwoLeft s at left t
+left-two s at left (Two.Is f v n) h p = (h, p)
+left-two s at left Two.Not h p = tt
+
+module _ (s : List ℕ) (c left : ℕ) (t : Two) (f v to : ℕ) (q : t ≡ Two.Is f v to) (h : TwoLeft s c left t) where
+  both-left : (2 ≤ left) × TwoSays s c (Two.Is f v to)
+  both-left = subst (TwoLeft s c left) q h
+
+  pub two-many : 2 ≤ left
+  two-many = both-left .0
+
+  pub wording-two : (at n k : ℕ) (old : List ℕ) (i : ℕ) (cur half new : List ℕ) → Wording s at n k old c left i cur → half ≡ set cur i f → new ≡ set half (i + 1) v
+      → Wording s at n k old to (left - 2) (i + 2) new
+  wording-two at n k old i cur half new g d e =
+      let y = both-left .1 in
+      let m = y .0 in
+      let one = wording-more s at n k old c left i cur g m half (omega (arith, two-many)) (word-put s c f m i cur (hex-known s c (record { value = f; next = m }) (sym (y .1))) d) in
+      let two = wording-more s at n k old m (left - 1) (i + 1) half one to new (omega (arith, two-many)) (word-put s m v to (i + 1) half (hex-known s m (record { value = v; next = to }) (sym (y .2))) e) in
+      let a : left - 1 - 1 ≡ left - 2 = omega arith in
+      let b : i + 1 + 1 ≡ i + 2 = omega arith in
+      subst (λ (j : ℕ). Wording s at n k old to (left - 2) j new) b (subst (λ (j : ℕ). Wording s at n k old to j (i + 1 + 1) new) a two)
 
 -- ---- rows of a form
 module _ (s : List ℕ) (at : ℕ) where

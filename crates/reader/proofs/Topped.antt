@@ -12,11 +12,11 @@ use Rattle.layout.specs.Reading.{Got}
 use Rattle.layout.specs.Sections as S
 use Rattle.layout.specs.Sections.{headerOf}
 use Rattle.steps.specs.declared.step.Bad.{Bad}
-use Rattle.steps.specs.declared.head.Kind.{Kind}
-use Rattle.steps.specs.declared.head.Fifth.{Fifth}
-use Rattle.steps.specs.declared.head.Head.{Head}
-use Rattle.steps.specs.declared.head.Header.{Header}
-use Rattle.steps.specs.Heads.{kindFor, fifthFor, headFor, headView, HeadAt}
+use Rattle.heads.specs.declared.head.Kind.{Kind}
+use Rattle.heads.specs.declared.head.Fifth.{Fifth}
+use Rattle.heads.specs.declared.head.Head.{Head}
+use Rattle.heads.specs.declared.head.Header.{Header}
+use Rattle.heads.specs.Heads.{kindFor, fifthFor, headFor, headView, HeadAt}
 use Rattle.judging.specs.Judging.{idFor}
 use Rattle.reader.specs.declared.tops.Top.{Top}
 use Rattle.reader.specs.Filling.{Steps}

@@ -12,6 +12,8 @@ use Rattle.layout.specs.Items.{Pair}
 use Rattle.layout.specs.Rows.{faceRow}
 use Rattle.layout.specs.Reading.{Got, got, bad, Reader, next, pure}
 use Rattle.layout.specs.Sections.{elementOf, facingOf, mixedOf}
+use Rattle.steps.specs.declared.twos.Two.{Two}
+use Rattle.steps.specs.Twos.{TwoSays}
 use Rattle.reader.specs.declared.rows.Form.{Form}
 
 -- what holds of a thing that is read
@@ -55,3 +57,8 @@ setPairs b k ps = record { mantissas = sets (b .mantissas) k (map (λ p. p .mant
 
 abbrev pub origin : Pair
 origin = record { mantissa = pos 0; exponent = pos 0 }
+
+-- ---- two words found together, where as many are left
+abbrev pub TwoLeft : List ℕ → ℕ → ℕ → Two → Type 0
+TwoLeft s at left (Two.Is f v n) = (2 ≤ left) × TwoSays s at (Two.Is f v n)
+TwoLeft s at left Two.Not = Unit

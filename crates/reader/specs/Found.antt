@@ -12,7 +12,7 @@ use Rattle.layout.specs.Keeps.{most, Room}
 use Rattle.layout.specs.Rows.{piecesOf, mantissaTable, exponentTable, faceTable, cellTable, zonesOf}
 use Rattle.layout.specs.Read.{Answer, accepted, refused, answerOf, lay}
 use Rattle.judging.specs.declared.judge.Room as Code
-use Rattle.judging.specs.declared.listed.Limit.{Limit}
+use Rattle.listing.specs.declared.listed.Limit.{Limit}
 use Rattle.reader.specs.declared.core.Found.{Found}
 
 -- six words a record: section id, zone, first, last, type, element

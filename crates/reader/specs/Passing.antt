@@ -17,9 +17,9 @@ use Rattle.layout.specs.Keeps.{FifthOf, partsIn}
 use Rattle.layout.specs.Rows.{Table, joined, piecesOf, zonesOf, zoneOf, mantissaTable, exponentTable, faceTable, cellTable}
 use Rattle.layout.specs.Sections.{headerOf, bodyOf}
 use Rattle.layout.specs.Read.{lay}
-use Rattle.steps.specs.declared.head.Kind as Code
-use Rattle.steps.specs.declared.head.Head.{Head}
-use Rattle.steps.specs.Heads.{kindFor, headFor}
+use Rattle.heads.specs.declared.head.Kind as Code
+use Rattle.heads.specs.declared.head.Head.{Head}
+use Rattle.heads.specs.Heads.{kindFor, headFor}
 use Rattle.survey.specs.Sites.{Stands, AllStand}
 use Rattle.reader.specs.declared.rows.Form.{Form}
 use Rattle.reader.specs.declared.tops.Top.{Top}

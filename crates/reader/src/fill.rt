@@ -4,7 +4,7 @@ ghost use mathlib.Core.Path.{_≡_};
 ghost use Rattle.mesh.specs.Rows.{nodeWords};
 ghost use Rattle.sizes.specs.Sizes.{zones};
 ghost use Rattle.reader.specs.Passing.{Fills};
-use super::sections::section_into;
+use super::parts::section_into;
 
 fn index_of(place: u32) -> usize
     ensures { λ r. ⌜ r ≡ place ⌝ }

@@ -9,12 +9,17 @@ ghost use Rattle.tokens.specs.Listed.{tokensFrom};
 ghost use Rattle.layout.specs.Rows.{joined, faceRow};
 ghost use Rattle.layout.specs.Reading.{rowsOf, enclosedOf};
 ghost use Rattle.layout.specs.Sections.{hexOf, elementOf, facingOf, mixedOf};
-ghost use Rattle.reader.specs.Filling.{Steps, rowRead, Placed, widthOf};
+ghost use Rattle.reader.specs.Filling.{Steps, TwoLeft, rowRead, Placed, widthOf};
 use super::words::count_at;
 use super::words::hex_at;
 use super::words::past_left;
 use super::words::past_right;
 use mesh::store;
+use steps::Two;
+use steps::known_two;
+
+// The places of 4,096 face rows: indices of three digits.
+const SHORT_PLACES: usize = 32768;
 
 // What a row is: a face of n nodes, a face that says how many it has, a cell that says its element.
 pub enum Form {
@@ -31,6 +36,19 @@ fn put_word(s: &[u8], at: usize, words: &mut [u32], k: usize) -> usize
     v.next
 }
 
+// The next two words together, where as many are left and both are short. Far behind in a table indices are long, and the look would be in vain.
+fn two_left(s: &[u8], at: usize, left: u32, place: usize) -> Two
+    ensures { λ r. ⌜ TwoLeft (now (s .entry)) at left r ⌝ }
+{
+    if left < 2 {
+        return Two::Not;
+    }
+    if SHORT_PLACES <= place {
+        return Two::Not;
+    }
+    known_two(s, at)
+}
+
 // n words of the file, from place k on.
 fn put_words(s: &[u8], at: usize, n: u32, words: &mut [u32], k: usize) -> usize
     requires { ⌜ k ≤ 2 ^ 40 ⌝ }
@@ -40,9 +58,26 @@ fn put_words(s: &[u8], at: usize, n: u32, words: &mut [u32], k: usize) -> usize
     let mut left = n;
     let mut i = k;
     while 0 < left {
-        c = put_word(s, c, words, i);
-        i += 1;
-        left -= 1;
+        let t = two_left(s, c, left, i);
+        match t {
+            Two::Is {
+                first,
+                second,
+                next,
+            } => {
+                let behind = i + 1;
+                store(words, i, first);
+                store(words, behind, second);
+                c = next;
+                i += 2;
+                left -= 2;
+            }
+            Two::Not => {
+                c = put_word(s, c, words, i);
+                i += 1;
+                left -= 1;
+            }
+        }
     }
     c
 }

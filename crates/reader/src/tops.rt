@@ -8,17 +8,17 @@ ghost use Rattle.tokens.specs.Listed.{tokensFrom};
 ghost use Rattle.layout.specs.Items.{cell};
 ghost use Rattle.layout.specs.Rows.{elementIn, zoneOf};
 ghost use Rattle.layout.specs.Sections.{headerOf, headOf};
-ghost use Rattle.steps.specs.Heads.{kindFor, fifthFor};
+ghost use Rattle.heads.specs.Heads.{kindFor, fifthFor};
 ghost use Rattle.reader.specs.Filling.{Steps};
 ghost use Rattle.reader.specs.Found.{wordsOf};
 ghost use Rattle.reader.specs.Passing.{topOf};
+use heads::Fifth;
+use heads::Head;
+use heads::Header;
+use heads::Kind;
 use judging::id_of;
 use mesh::Zone;
 use mesh::store;
-use steps::Fifth;
-use steps::Head;
-use steps::Header;
-use steps::Kind;
 
 // The record of a section, and the place behind its header.
 pub struct Top {
@@ -88,7 +88,7 @@ fn no_top(next: usize) -> Top
 pub(crate) fn top_at(s: &[u8], at: usize, kind: Kind) -> Top
     ensures { λ r. ⌜ Steps (now (s .entry)) at (r .next) (headOf (length (now (s .entry))) (kindFor kind) (tokensFrom (now (s .entry)) at)) (λ h. r .zone ≡ zoneOf (kindFor kind) (headerOf h)) ⌝ }
 {
-    let header = steps::head_at(s, at, kind);
+    let header = heads::head_at(s, at, kind);
     match header {
         Header::No(_) => no_top(at),
         Header::Is { head, next } => top_of(kind, head, next),

@@ -3,13 +3,11 @@ use mathlib.Core.Path.{sym, _∙_}
 use denote.Ref.{now}
 use Rattle.facts.specs.Alike.{Alike}
 use Rattle.steps.specs.Views.{pastView, closeView, numView, pairView}
-use Rattle.steps.specs.Heads.{headView}
 use Rattle.steps.proofs.step.left_at.Reads as left-at
 use Rattle.steps.proofs.step.right_at.Reads as right-at
 use Rattle.steps.proofs.step.number_at.Reads as number-at
+use Rattle.steps.proofs.ids.id_at.Reads as id-at
 use Rattle.steps.proofs.quick.pair_at.Reads as pair-at
-use Rattle.steps.proofs.skip.skip_from.Reads as skip-from
-use Rattle.steps.proofs.head.head_at.Reads as head-at
 
 pub left-at-alike : Alike (λ κ a r. pastView (now (a .0)) r) left-at.Post
 left-at-alike κ a r r′ x x′ p q = p .says ∙ sym (q .says)
@@ -20,11 +18,8 @@ right-at-alike κ a r r′ x x′ p q = p .says ∙ sym (q .says)
 pub number-at-alike : Alike (λ κ a r. numView (now (a .0)) r) number-at.Post
 number-at-alike κ a r r′ x x′ p q = p .says ∙ sym (q .says)
 
+pub id-at-alike : Alike (λ κ a r. numView (now (a .0)) r) id-at.Post
+id-at-alike κ a r r′ x x′ p q = p .says ∙ sym (q .says)
+
 pub pair-at-alike : Alike (λ κ a r. pairView (now (a .0)) r) pair-at.Post
 pair-at-alike κ a r r′ x x′ p q = p .says ∙ sym (q .says)
-
-pub skip-from-alike : Alike (λ κ a r. pastView (now (a .0)) r) skip-from.Post
-skip-from-alike κ a r r′ x x′ p q = p .says ∙ sym (q .says)
-
-pub head-at-alike : Alike (λ κ a r. headView (now (a .0)) r) head-at.Post
-head-at-alike κ a r r′ x x′ p q = p .says ∙ sym (q .says)

@@ -13,10 +13,11 @@ use Rattle.tokens.specs.declared.Step.{Step}
 use Rattle.tokens.specs.Tokens.{startOf, tokenAt}
 use Rattle.tokens.proofs.Ended.{word-token, ended-low}
 use Rattle.numbers.specs.declared.whole.Whole.{Whole}
-use Rattle.numbers.specs.declared.quick.Hexes.{Hexes}
-use Rattle.numbers.specs.Whole.{digitOf, hexadecimalOf}
-use Rattle.numbers.specs.Hexes.{hexesOf}
-use Rattle.numbers.proofs.Digits.{Begins, NoDigit}
+use Rattle.digits.specs.declared.quick.Hexes.{Hexes}
+use Rattle.digits.specs.Digits.{digitOf}
+use Rattle.numbers.specs.Whole.{hexadecimalOf}
+use Rattle.digits.specs.Hexes.{hexesOf}
+use Rattle.digits.proofs.Digits.{Begins, NoDigit}
 use Rattle.numbers.proofs.Pieces.{wholeOf-exactly}
 use Rattle.numbers.proofs.AtOnce.{digit-high, hexes-all}
 use Rattle.steps.specs.Quick.{hexesFrom, knownBy, knownOf}

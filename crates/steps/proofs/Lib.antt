@@ -3,10 +3,10 @@ pub mod Windows
 pub mod Near
 pub mod Quickly
 pub mod Single
+mod Figured
 pub mod Pairing
 pub mod Knowing
-pub mod Stepping
 pub mod Chain
 pub mod Alike
-mod Strings
 pub mod Only
+pub mod Twice

@@ -1,10 +1,10 @@
 -- Digits from a place on, at most 8, and the usual case that one blank stands before them: then the next token starts there. Assumes nothing.
 use Prim.Native.Nat.{ℕ, _+_, _-_, _≤_, _<_}
 use native.Mathlib.Omega.{arith}
-use mathlib.Core.Path.{_≡_, sym, ap, subst, _∙_}
+use mathlib.Core.Path.{_≡_, sym, ap, ap₂, subst, _∙_}
 use mathlib.Core.List.{List}
-use mathlib.Core.Bool.{true, false, _&&_}
-use borrow.Author.Tests.{le-leb, lt-leb, leb-true, eqb-true, eqb-false}
+use mathlib.Core.Bool.{Bool, true, false, _&&_}
+use borrow.Author.Tests.{le-leb, lt-leb, leb-true, eqb-true, eqb-false, eq-eqb, ne-eqb}
 use lib.Dec.{leb, eqb}
 use lib.ListN.{length, take, drop, getD, drop-of-length-le, length-take, length-drop}
 use lib.Seq.{take-all, getD-take, getD-drop}
@@ -12,11 +12,13 @@ use Rattle.facts.proofs.Branch.{split}
 use Rattle.facts.proofs.Decides.{and-split}
 use Rattle.tokens.specs.Tokens.{isBlank, startOf}
 use Rattle.tokens.proofs.Runner.{start-next}
-use Rattle.numbers.specs.declared.quick.Hexes.{Hexes}
-use Rattle.numbers.specs.Whole.{digitsIn}
-use Rattle.numbers.specs.Hexes.{hexesOf}
+use Rattle.digits.specs.declared.quick.Hexes.{Hexes}
+use Rattle.digits.specs.Digits.{digitsIn}
+use Rattle.digits.specs.Hexes.{hexesOf}
+use Rattle.digits.specs.Lanes.{Laned}
+use Rattle.digits.specs.Couples.{endIn}
 use Rattle.numbers.proofs.AtOnce.{hexes-worded, digit-high}
-use Rattle.steps.specs.Quick.{hexesFrom, nearHexes}
+use Rattle.steps.specs.Quick.{hexesFrom, guessed, nearHexes}
 
 abbrev none : Hexes
 none = record { value = 0; count = 0 }
@@ -60,9 +62,22 @@ module _ (s : List ℕ) (at : ℕ) where
     unfolding nearHexes
     near-solid b = rw (le-leb (at + 9) (length s) l, b, nearHexes)
 
-    pub near-blank : isBlank (getD s at 0) ≡ true → (h : Hexes) → h ≡ hexesFrom s (at + 1) → h ≡ nearHexes s at
-    unfolding nearHexes
-    near-blank b h f = f ∙ rw (le-leb (at + 9) (length s) l, b, nearHexes)
+    -- the guess, and what the digits are
+    module _ (b : isBlank (getD s at 0) ≡ true) (x g : ℕ) (n : Laned (take 8 (drop (at + 1) s)) x) (e : g ≡ endIn x) (h : Hexes) (f : h ≡ hexesFrom s (at + 1)) where
+      abbrev pick : Bool → Hexes
+      pick t = elim t [ true ↦ hexesFrom s (at + 1) | false ↦ none ]
+
+      near-test : (t : Bool) → eqb g (h .count) ≡ t → pick t ≡ nearHexes s at
+      unfolding nearHexes
+      near-test t q =
+          let same : guessed s (at + 1) ≡ t = sym (ap₂ (λ (k : ℕ) (y : Hexes). eqb k (y .count)) (e ∙ ap endIn (n .same)) f) ∙ q in
+          sym (λ i. pick (le-leb (at + 9) (length s) l i && (b i && same i)))
+
+      pub near-blank : g ≡ h .count → record { value = h .value; count = g } ≡ nearHexes s at
+      near-blank q = (λ i. record { value = h .value; count = q i }) ∙ f ∙ near-test true (eq-eqb g (h .count) q)
+
+      pub near-other : (g ≡ h .count → ⊥) → none ≡ nearHexes s at
+      near-other q = near-test false (ne-eqb g (h .count) q)
 
   pub record Near (h : Hexes) : Type 0 where
     pub within : at + 9 ≤ length s
@@ -70,7 +85,7 @@ module _ (s : List ℕ) (at : ℕ) where
     pub found : h ≡ hexesFrom s (at + 1)
 
   -- a digit is no blank
-  near-starts : at + 9 ≤ length s → isBlank (getD s at 0) ≡ true → 1 ≤ hexesFrom s (at + 1) .count → at + 1 ≡ startOf s at
+  pub near-starts : at + 2 ≤ length s → isBlank (getD s at 0) ≡ true → 1 ≤ hexesFrom s (at + 1) .count → at + 1 ≡ startOf s at
   unfolding hexesFrom
   near-starts l b some =
       let w = take 8 (drop (at + 1) s) in
@@ -81,13 +96,15 @@ module _ (s : List ℕ) (at : ℕ) where
   pub near-found : (h : Hexes) → h ≡ nearHexes s at → 0 < h .count → Near h
   unfolding nearHexes
   near-found h f some =
-      split (leb (at + 9) (length s) && isBlank (getD s at 0))
-      (λ p. let both = and-split (leb (at + 9) (length s)) (isBlank (getD s at 0)) p in
+      let room = leb (at + 9) (length s) in
+      let blank = isBlank (getD s at 0) in
+      split (room && (blank && guessed s (at + 1)))
+      (λ p. let both = and-split room (blank && guessed s (at + 1)) p in
       let e : h ≡ hexesFrom s (at + 1) = f ∙ rw (p, nearHexes) in
       let l = leb-true (at + 9) (length s) (both .0) in
       record {
         within = l;
-        starts = near-starts l (both .1) (omega (arith, some, ap (λ (y : Hexes). y .count) e));
+        starts = near-starts (omega (arith, l)) (and-split blank (guessed s (at + 1)) (both .1) .0) (omega (arith, some, ap (λ (y : Hexes). y .count) e));
         found = e;
       })
       (λ p. absurd (let e : h ≡ none = f ∙ rw (p, nearHexes) in omega (arith, some, ap (λ (y : Hexes). y .count) e)))

@@ -5,6 +5,7 @@ use Rattle.steps.proofs.pairs.quick_pair.Reads as quick-pair
 use Rattle.steps.proofs.quick.digit_hex.Reads as digit-hex
 use Rattle.steps.proofs.quick.known_hex.Reads as known-hex
 use Rattle.steps.proofs.quick.quick_hex.Reads as quick-hex
+use Rattle.steps.proofs.twos.known_two.Reads as known-two
 
 pub quick-hex-only : Only quick-hex.Post
 quick-hex-only κ a r r′ x x′ p q = p ∙ sym q
@@ -17,3 +18,6 @@ quick-pair-only κ a r r′ x x′ p q = p ∙ sym q
 
 pub digit-hex-only : Only digit-hex.Post
 digit-hex-only κ a r r′ x x′ p q = p ∙ sym q
+
+pub known-two-only : Only known-two.Post
+known-two-only κ a r r′ x x′ p q = p .same ∙ sym (q .same)

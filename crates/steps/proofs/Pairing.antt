@@ -9,7 +9,7 @@ use Rattle.facts.proofs.Branch.{either, differ}
 use Rattle.tokens.specs.Tokens.{startOf, endsWord}
 use Rattle.tokens.specs.Listed.{tokensFrom}
 use Rattle.numbers.specs.declared.mild.Mild.{Mild}
-use Rattle.numbers.specs.Whole.{digitsIn}
+use Rattle.digits.specs.Digits.{digitsIn}
 use Rattle.numbers.specs.Coordinate.{signIn, fractionIn}
 use Rattle.numbers.specs.Lead.{leadOf}
 use Rattle.numbers.specs.Mild.{mildOf}

@@ -13,15 +13,15 @@ use Rattle.facts.proofs.Decides.{and-split, or-split, either-of}
 use Rattle.tokens.specs.declared.Token.{Token}
 use Rattle.tokens.specs.Tokens.{startOf, endsWord, stepOf, tokenAt}
 use Rattle.tokens.specs.Listed.{tokensFrom}
-use Rattle.numbers.specs.declared.quick.Hexes.{Hexes}
+use Rattle.digits.specs.declared.quick.Hexes.{Hexes}
 use Rattle.numbers.specs.declared.sort.Sort.{Sort}
 use Rattle.numbers.specs.declared.decimal.Decimal.{Decimal}
 use Rattle.numbers.specs.declared.decimal.Lead.{Lead}
 use Rattle.numbers.specs.Coordinate.{coordinateOf}
 use Rattle.numbers.specs.Lead.{isPart, leadOf}
-use Rattle.numbers.specs.Whole.{within, digitOf}
-use Rattle.numbers.specs.Hexes.{hexesOf}
-use Rattle.numbers.proofs.Digits.{within-is}
+use Rattle.digits.specs.Digits.{within, digitOf}
+use Rattle.digits.specs.Hexes.{hexesOf}
+use Rattle.digits.proofs.Digits.{within-is}
 use Rattle.numbers.proofs.Led.{lead-is, lead-next, lead-parts}
 use Rattle.numbers.proofs.AtOnce.{Worded, hexes-worded, digit-high}
 use Rattle.layout.specs.Reading.{numberBy, pairWord}

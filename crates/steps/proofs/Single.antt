@@ -16,8 +16,9 @@ use Rattle.tokens.specs.Listed.{tokensFrom}
 use Rattle.tokens.proofs.Runner.{start-next, word-found}
 use Rattle.numbers.specs.declared.sort.Sort.{Sort}
 use Rattle.numbers.specs.declared.whole.Whole.{Whole}
-use Rattle.numbers.specs.Whole.{within, digitOf, hexadecimalOf}
-use Rattle.numbers.proofs.Digits.{within-is}
+use Rattle.digits.specs.Digits.{within, digitOf}
+use Rattle.numbers.specs.Whole.{hexadecimalOf}
+use Rattle.digits.proofs.Digits.{within-is}
 use Rattle.numbers.proofs.Pieces.{wholeOf-exact}
 use Rattle.layout.specs.Reading.{numberBy}
 use Rattle.steps.specs.declared.step.Num.{Num}

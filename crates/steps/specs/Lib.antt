@@ -1,5 +1,5 @@
 pub mod Views
-pub mod Heads
 pub mod Quick
 pub mod Pairs
-pub mod Quotes
+pub mod Twos
+pub mod Ids

@@ -1,13 +1,15 @@
 -- The usual number word: hexadecimal digits, behind which the word ends. Assumes nothing.
 use Prim.Native.Nat.{ℕ, _+_, _-_}
 use mathlib.Core.List.{List}
-use mathlib.Core.Bool.{true, false, _&&_}
-use lib.Dec.{ltb, leb}
+use mathlib.Core.Bool.{Bool, true, false, _&&_}
+use lib.Dec.{ltb, leb, eqb}
 use lib.ListN.{length, take, drop, getD}
 use Rattle.tokens.specs.Tokens.{isBlank, startOf, endsWord}
-use Rattle.numbers.specs.declared.quick.Hexes.{Hexes}
-use Rattle.numbers.specs.Whole.{within}
-use Rattle.numbers.specs.Hexes.{hexesOf}
+use Rattle.digits.specs.declared.quick.Hexes.{Hexes}
+use Rattle.digits.specs.Digits.{within}
+use Rattle.digits.specs.Hexes.{hexesOf}
+use Rattle.digits.specs.Lanes.{lanes}
+use Rattle.digits.specs.Couples.{endIn}
 use Rattle.steps.specs.declared.quick.Quick.{Quick}
 use Rattle.steps.specs.declared.quick.Known.{Known}
 
@@ -15,9 +17,13 @@ use Rattle.steps.specs.declared.quick.Known.{Known}
 unfoldable pub hexesFrom : List ℕ → ℕ → Hexes
 hexesFrom s i = hexesOf (take 8 (drop i s))
 
--- the digits behind one blank, where 8 bytes stand there; else none
+-- that the place where the word there seems to end is the one behind its digits
+abbrev pub guessed : List ℕ → ℕ → Bool
+guessed s i = eqb (endIn (lanes 8 (take 8 (drop i s)))) (hexesFrom s i .count)
+
+-- the digits behind one blank, where 8 bytes stand there and the word seems to end behind the digits; else none
 unfoldable pub nearHexes : List ℕ → ℕ → Hexes
-nearHexes s at = elim (leb (at + 9) (length s) && isBlank (getD s at 0)) [ true ↦ hexesFrom s (at + 1) | false ↦ record { value = 0; count = 0 } ]
+nearHexes s at = elim (leb (at + 9) (length s) && (isBlank (getD s at 0) && guessed s (at + 1))) [ true ↦ hexesFrom s (at + 1) | false ↦ record { value = 0; count = 0 } ]
 
 -- at most n bytes from the next token's start on
 abbrev pub window : List ℕ → ℕ → ℕ → List ℕ

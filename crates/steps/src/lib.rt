@@ -1,17 +1,11 @@
-// One thing expected at a place of a file, and headers: the layout's steps. Each answers a refusal where the token there is another one.
-mod head;
+// One thing expected at a place of a file: the layout's steps. Each answers a refusal where the token there is another one.
+mod ids;
 mod pairs;
 mod quick;
-mod quotes;
-mod skip;
 mod step;
+mod twos;
 
-pub use head::Fifth;
-pub use head::Head;
-pub use head::Header;
-pub use head::Kind;
-pub use head::Read;
-pub use head::head_at;
+pub use ids::id_at;
 pub use pairs::Went;
 pub use pairs::quick_pair;
 pub use quick::Known;
@@ -20,7 +14,6 @@ pub use quick::digit_hex;
 pub use quick::known_hex;
 pub use quick::pair_at;
 pub use quick::quick_hex;
-pub use skip::skip_from;
 pub use step::Bad;
 pub use step::Close;
 pub use step::Num;
@@ -29,3 +22,5 @@ pub use step::Past;
 pub use step::left_at;
 pub use step::number_at;
 pub use step::right_at;
+pub use twos::Two;
+pub use twos::known_two;

@@ -8,8 +8,8 @@ ghost use Rattle.steps.specs.Views.{PairAt};
 ghost use Rattle.steps.specs.Quick.{hexesFrom, nearHexes, quickBy, quickOf, figureOf, digitHex, knownBy, knownOf};
 use super::step::Pair;
 use super::step::pair_by_token;
+use digits::Hexes;
 use numbers::Decimal;
-use numbers::Hexes;
 use tokens::Cursor;
 
 // Most digits of a whole number.
@@ -52,13 +52,13 @@ fn hexes_from(s: &[u8], start: usize) -> Hexes
     }
     let rest = size - start;
     if rest < HEX_BYTES {
-        return numbers::hexes_in(&s[start..]);
+        return digits::hexes_in(&s[start..]);
     }
     let end = start + HEX_BYTES;
-    numbers::hexes_in(&s[start..end])
+    digits::hexes_in(&s[start..end])
 }
 
-// The digits behind one blank, where 8 bytes stand there; else none. So words mostly stand, and it takes no loop.
+// The digits behind one blank, where 8 bytes stand there and the word seems to end behind the digits; else none. So words mostly stand, and it takes no loop.
 fn near_hexes(s: &[u8], at: usize) -> Hexes
     ensures { λ r. ⌜ r ≡ nearHexes (now (s .entry)) at ⌝ }
 {
@@ -74,7 +74,19 @@ fn near_hexes(s: &[u8], at: usize) -> Hexes
     if blank {
         let from = at + 1;
         let to = from + HEX_BYTES;
-        return numbers::hexes_in(&s[from..to]);
+        let x = digits::bytes_at(s, from);
+        // The guess comes before the count and is what is answered: the next word's place waits for it, it is known much sooner, and of two equal values the compiler keeps the older.
+        let guess = digits::end_in(x);
+        let h = digits::hexes_in(&s[from..to]);
+        let count = h.count;
+        if guess == count {
+            let value = h.value;
+            return Hexes {
+                value,
+                count: guess,
+            };
+        }
+        return Hexes { value: 0, count: 0 };
     }
     Hexes { value: 0, count: 0 }
 }

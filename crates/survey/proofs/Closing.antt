@@ -16,7 +16,7 @@ use Rattle.layout.specs.State.{tiled}
 use Rattle.layout.specs.Read.{accepted, refused, ending, endOf, tokensAnswer, answerOf}
 use Rattle.judging.specs.declared.judge.State.{State}
 use Rattle.judging.specs.Kept.{keptOf}
-use Rattle.survey.specs.Sections.{stateFor}
+use Rattle.sections.specs.Sections.{stateFor}
 use Rattle.survey.specs.Files.{verdict, closing}
 use Rattle.survey.specs.Sites.{tokenSites, sitesOf, placesOf}
 

@@ -36,16 +36,16 @@ use Rattle.layout.proofs.Behind.{section-less}
 use Rattle.layout.proofs.Enough.{fileOf-enough}
 use Rattle.steps.specs.declared.step.Bad.{Bad}
 use Rattle.judging.specs.declared.judge.State.{State}
-use Rattle.survey.specs.declared.section.Met.{Met}
-use Rattle.survey.specs.declared.section.Sect.{Sect}
+use Rattle.sections.specs.declared.section.Met.{Met}
+use Rattle.sections.specs.declared.section.Sect.{Sect}
 use Rattle.judging.specs.declared.judge.Seen as S
 use Rattle.judging.specs.Kept.{keptOf}
 use Rattle.judging.specs.Judging.{idFor}
-use Rattle.survey.specs.Noting.{noteState, noteId, noteFirst, noteLast, notePlace}
-use Rattle.survey.specs.Sections.{Outline, other, outlineOf, outlined, metFor, sectView, SectAt, stateFor}
+use Rattle.sections.specs.Noting.{noteState, noteId, noteFirst, noteLast, notePlace}
+use Rattle.sections.specs.Sections.{Outline, other, outlineOf, outlined, metFor, sectView, SectAt, stateFor}
 use Rattle.survey.specs.Files.{verdict, lastOf}
 use Rattle.survey.specs.Sites.{sited, sitedBy, sitesFrom, tokenSites}
-use Rattle.survey.proofs.Noting.{isPart, note-is}
+use Rattle.sections.proofs.Noting.{isPart, note-is}
 use Rattle.survey.proofs.Based.{left-next}
 use Rattle.survey.proofs.Sites.{sited-noted, sited-bad, sites-enough}
 

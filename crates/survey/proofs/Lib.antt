@@ -1,7 +1,3 @@
-pub mod Gates
-pub mod Sections
-pub mod Ids
-pub mod Noting
 pub mod Based
 pub mod Sites
 pub mod Closing

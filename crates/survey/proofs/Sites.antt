@@ -25,12 +25,12 @@ use Rattle.layout.proofs.Sums.{Seen, none-seen, one-more}
 use Rattle.layout.proofs.SoundSections.{section-holds}
 use Rattle.layout.proofs.Behind.{section-less, section-behind}
 use Rattle.judging.specs.declared.judge.State.{State}
-use Rattle.steps.specs.declared.head.Kind.{Kind}
-use Rattle.survey.specs.declared.section.Met as Code
-use Rattle.survey.specs.Noting.{noteState, notePlace}
-use Rattle.survey.specs.Sections.{Outline, outlineOf, outlined, metFor}
+use Rattle.heads.specs.declared.head.Kind.{Kind}
+use Rattle.sections.specs.declared.section.Met as Code
+use Rattle.sections.specs.Noting.{noteState, notePlace}
+use Rattle.sections.specs.Sections.{Outline, outlineOf, outlined, metFor}
 use Rattle.survey.specs.Sites.{sited, sitedBy, sitesFrom, tokenSites, sitesOf, Stands, AllStand}
-use Rattle.survey.proofs.Noting.{isPart, more-in}
+use Rattle.sections.proofs.Noting.{isPart, more-in}
 use Rattle.survey.proofs.Based.{Based, based-behind, tokens-based}
 
 -- ---- one section

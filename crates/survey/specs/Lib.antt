@@ -1,4 +1,2 @@
-pub mod Sections
-pub mod Noting
 pub mod Files
 pub mod Sites

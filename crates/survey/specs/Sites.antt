@@ -14,7 +14,7 @@ use Rattle.layout.specs.Keeps.{Room}
 use Rattle.layout.specs.State.{State, start, after}
 use Rattle.layout.specs.Reading.{Got, got, bad}
 use Rattle.layout.specs.Sections.{sectionOf}
-use Rattle.survey.specs.Sections.{Outline, dim, decl, part, other, outlineOf}
+use Rattle.sections.specs.Sections.{Outline, dim, decl, part, other, outlineOf}
 
 -- a section whose `(` is before the place p, and then the places ps
 abbrev pub sited : Outline → ℕ → List ℕ → List ℕ

@@ -5,24 +5,28 @@ ghost use lib.ListN.{length};
 ghost use lib.Seq.{sets};
 ghost use Prim.Native.Nat.{_≤_};
 ghost use Rattle.sizes.specs.Sizes.{fileBytes, zones};
+ghost use Rattle.tokens.specs.Tokens.{tokenAt};
 ghost use Rattle.tokens.specs.Listed.{tokensFrom};
 ghost use Rattle.layout.specs.Read.{endOf, tokensAnswer, answerOf};
 ghost use Rattle.layout.specs.Replies.{shown};
-ghost use Rattle.survey.specs.Sections.{stateFor, roomAll};
+ghost use Rattle.sections.specs.Sections.{stateFor, roomAll};
 ghost use Rattle.survey.specs.Files.{verdict, closing, lastOf};
 ghost use Rattle.survey.specs.Sites.{tokenSites, placesOf};
-use super::note::keep;
-use super::note::noted;
-use super::section::Sect;
-use super::section::section_at;
 use judging::Room;
 use judging::Seen;
 use judging::State;
 use judging::is_tiled;
 use layout::Refusal;
 use layout::Reply;
+use sections::Sect;
+use sections::keep;
+use sections::noted;
+use sections::section_at;
 use tokens::Cursor;
+use tokens::Step;
 use tokens::Token;
+
+const LEFT: u8 = 40;
 
 // What reading a file answers, and the place behind the `(` of each regular section that was met, in order.
 pub struct Located {
@@ -110,6 +114,25 @@ fn last_of(
     }
 }
 
+// The first token at or behind a place. A `(` is known by its byte, and mostly stands there.
+fn token_at(s: &[u8], at: usize) -> Step
+    ensures { λ r. ⌜ r ≡ tokenAt (now (s .entry)) at ⌝ }
+{
+    let start = (Cursor { at }).start(s);
+    if start < s.len() {
+        let b = s[start];
+        if b == LEFT {
+            let behind = start + 1;
+            return Step {
+                token: Token::Left,
+                start,
+                next: Cursor { at: behind },
+            };
+        }
+    }
+    (Cursor { at }).token(s)
+}
+
 // The sections of a file that is not too long, from its first byte. The four slices hold what was met of the regular ones.
 fn file_from(
     s: &[u8],
@@ -136,7 +159,7 @@ fn file_from(
     let mut c: usize = 0;
     let mut k: u32 = 0;
     loop {
-        let t = (Cursor { at: c }).token(s);
+        let t = token_at(s, c);
         let kind = t.token;
         let start = t.start;
         let next = t.next.at;

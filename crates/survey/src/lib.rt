@@ -1,7 +1,5 @@
 // Judging a file: the whole of it in order, no table touched.
 mod file;
-mod note;
-mod section;
 
 pub use file::Located;
 pub use file::locate;

@@ -5,7 +5,7 @@ pub mod Bounds
 pub mod Listed
 pub mod Marks
 pub mod Marked
-pub mod Quoted
+pub mod Passing
 pub mod Blanked
 mod Runs
 mod TextOf

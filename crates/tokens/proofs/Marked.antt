@@ -10,7 +10,7 @@ use Rattle.facts.proofs.Branch.{split}
 use Rattle.tokens.specs.declared.Class.{Class}
 use Rattle.tokens.specs.declared.Run.{Run}
 use Rattle.tokens.specs.declared.Token.{Token}
-use Rattle.tokens.specs.Tokens.{isBlank, classOf, goesOn, markOf, quoteOf, stepOf, tokenOf, tokenAt}
+use Rattle.tokens.specs.Tokens.{isBlank, classOf, goesOn, startOf, markOf, quoteOf, stepOf, tokenOf, tokenAt}
 use Rattle.tokens.proofs.Ended.{Ends, run-ends}
 use Rattle.tokens.proofs.Laws.{run-stop, run-out, token-is, token-end, text-closed, text-unclosed}
 
@@ -40,6 +40,11 @@ module _ (s : List ℕ) (m : ℕ) where
   pub mark-left : m < length s → getD s m 0 ≡ 40 → stepOf Token.Left m (m + 1) ≡ tokenAt s m
   unfolding tokenOf
   mark-left h b = solid-is Class.Left h (left-class (getD s m 0) b) refl
+
+  -- the blanks from `at` on end here
+  pub start-left : (at : ℕ) → m ≡ startOf s at → m < length s → getD s m 0 ≡ 40 → stepOf Token.Left m (m + 1) ≡ tokenAt s at
+  unfolding tokenOf
+  start-left at b h e = token-is s m at b Class.Left h (left-class (getD s m 0) e)
 
   pub mark-right : m < length s → getD s m 0 ≡ 41 → stepOf Token.Right m (m + 1) ≡ tokenAt s m
   unfolding tokenOf

@@ -4,7 +4,8 @@ use mathlib.Core.List.{List, [], _∷_, map}
 use Rattle.facts.specs.Bytes.{bigEndian}
 use Rattle.tokens.specs.Tokens.{classOf, runEnd, runAt, textTo, tokenOf, tokenFrom, tokenAt}
 use Rattle.tokens.specs.Listed.{tokensIn, tokensFrom}
-use Rattle.numbers.specs.Whole.{digitOf, digitsIn, wholeOf}
+use Rattle.digits.specs.Digits.{digitOf, digitsIn}
+use Rattle.numbers.specs.Whole.{wholeOf}
 use Rattle.numbers.specs.Coordinate.{signIn, fractionIn, markedOf, powerOf, readingOf, cut, inRange, fitted, keep, coordinateOf}
 use Rattle.numbers.specs.Bad.{badAt}
 use Rattle.mesh.specs.Rows.{faceAt, cellAt}

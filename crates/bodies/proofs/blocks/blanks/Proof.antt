@@ -8,7 +8,7 @@ use Rattle.bodies.proofs.blocks.blanks.Statement.{statement}
 use Rattle.bodies.proofs.blocks.blanks.Tie as tie
 use Rattle.bodies.proofs.blocks.blanks.Reads as reads
 use Rattle.bodies.proofs.blocks.blanks.Lts as lts
-use Rattle.numbers.proofs.unlike.Reads as unlike-reads
+use Rattle.digits.proofs.unlike.Reads as unlike-reads
 
 -- src/blocks.rt:28:9
 unlike-requires : tie.Need-unlike-requires

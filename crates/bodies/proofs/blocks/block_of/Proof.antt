@@ -10,7 +10,7 @@ use Rattle.bodies.proofs.blocks.block_of.Reads as reads
 use Rattle.bodies.proofs.blocks.block_of.Lts as lts
 use Rattle.bodies.proofs.blocks.blanks.Reads as blanks-reads
 use Rattle.bodies.proofs.blocks.words_in.Reads as words-in-reads
-use Rattle.numbers.proofs.marks.Reads as marks-reads
+use Rattle.digits.proofs.marks.Reads as marks-reads
 
 -- src/blocks.rt:62:9
 marks-requires : tie.Need-marks-requires

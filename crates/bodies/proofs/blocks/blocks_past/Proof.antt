@@ -11,7 +11,7 @@ use Rattle.bodies.proofs.blocks.blocks_past.Reads as reads
 use Rattle.bodies.proofs.blocks.blocks_past.Lts as lts
 use Rattle.bodies.proofs.blocks.block_of.Reads as block-of-reads
 use Rattle.bodies.proofs.blocks.goes_for.Reads as goes-for-reads
-use Rattle.numbers.proofs.bytes_at.Reads as bytes-at-reads
+use Rattle.digits.proofs.bytes_at.Reads as bytes-at-reads
 
 abbrev Inv-loop : tie.InvT-loop
 Inv-loop s at n c₀ tail₀ left₀ size c tail left = Partial s at n c tail left

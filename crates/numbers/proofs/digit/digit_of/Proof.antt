@@ -1,7 +1,7 @@
 -- `digit_of` answers the digit's value. Assumes nothing.
 use mathlib.Core.Path.{sym, _∙_}
-use Rattle.numbers.specs.Whole.{digitOf}
-use Rattle.numbers.proofs.Digits.{within-is}
+use Rattle.digits.specs.Digits.{digitOf}
+use Rattle.digits.proofs.Digits.{within-is}
 use borrow.Author.Needs.{needs}
 use native.Mathlib.Omega.{arith}
 use Rattle.numbers.proofs.digit.digit_of.Statement.{statement}

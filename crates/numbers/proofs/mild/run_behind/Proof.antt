@@ -1,19 +1,16 @@
-use Rattle.numbers.proofs.Eights.{run-fits}
-use Prim.Native.Nat.{_^_}
-use Prim.Native.Nat.{_+_, _<_, _≤_}
-use Rattle.numbers.proofs.Eights.{found, run-more, run-stop, run-inside}
+use Rattle.numbers.proofs.Eights.{found, run-more, run-stop, run-eight, eight-inside, run-fits}
 use Rattle.numbers.specs.Mild.{behindOf}
+use Prim.Native.Nat.{_-_, _<_, _^_}
 use lib.ListN.{length}
-use mathlib.Core.Path.{_≡_, refl, _∙_, sym}
-use Prim.Native.Nat.{_-_}
+use mathlib.Core.Path.{_≡_, refl, _∙_}
 use borrow.Author.Needs.{needs}
 use native.Mathlib.Omega.{arith}
 use Rattle.numbers.proofs.mild.run_behind.Statement.{statement}
 use Rattle.numbers.proofs.mild.run_behind.Tie as tie
 use Rattle.numbers.proofs.mild.run_behind.Reads as reads
 use Rattle.numbers.proofs.mild.run_behind.Lts as lts
-use Rattle.numbers.proofs.group.group_of.Reads as group-of-reads
-use Rattle.numbers.proofs.lanes.bytes_at.Reads as bytes-at-reads
+use Rattle.digits.proofs.group_of.Reads as group-of-reads
+use Rattle.digits.proofs.bytes_at.Reads as bytes-at-reads
 
 abbrev Inv-loop : tie.InvT-loop
 Inv-loop w at i₀ i = (behindOf w i ≡ behindOf w at) × (i < 2 ^ 64)
@@ -33,25 +30,29 @@ bytes-at-requires c κs = search needs
 group-of-requires : tie.Need-group-of-requires Inv-loop μ-loop
 group-of-requires c κs = search needs
 
--- src/mild.rt:47:20
+-- src/mild.rt:48:24
 cast-step : tie.Need-cast-step Inv-loop μ-loop
 cast-step c = search needs
 
--- src/mild.rt:48:9
-add-i : tie.Need-add-i Inv-loop μ-loop
-add-i c = omega (arith, run-fits _ _ _ (found (c .before .before .before .before .args .w .now) (c .before .before .loop .i) (c .before .bytes-at .result) (c .group-of .result) (c .before .bytes-at .ensures) (c .group-of .ensures)) (c .before .before .loop .inv .1) (c .before .before .before .before .good .0 .0))
+-- src/mild.rt:49:23
+add-end : tie.Need-add-end Inv-loop μ-loop
+add-end c = omega (arith, run-fits _ _ _ (found (c .before .before .before .before .before .args .w .now) (c .before .before .before .loop .i) (c .before .before .bytes-at .result) (c .before .group-of .result) (c .before .before .bytes-at .ensures) (c .before .group-of .ensures)) (c .before .before .before .loop .inv .1) (c .before .before .before .before .before .good .0 .0))
 
 -- src/mild.rt:50:13
 returns : tie.Need-returns Inv-loop μ-loop
-returns c = run-stop _ _ _ (found (c .before .before .before .before .before .args .w .now) (c .before .before .before .loop .i) (c .before .before .bytes-at .result) (c .before .group-of .result) (c .before .before .bytes-at .ensures) (c .before .group-of .ensures)) (c .if1 .taken) ∙ run-more _ _ _ (found (c .before .before .before .before .before .args .w .now) (c .before .before .before .loop .i) (c .before .before .bytes-at .result) (c .before .group-of .result) (c .before .before .bytes-at .ensures) (c .before .group-of .ensures)) ∙ c .before .before .before .loop .inv .0
+returns c = let f = found (c .before .before .before .before .before .args .w .now) (c .before .before .before .loop .i) (c .before .before .bytes-at .result) (c .before .group-of .result) (c .before .before .bytes-at .ensures) (c .before .group-of .ensures) in run-stop _ _ _ f (c .if1 .taken) ∙ run-more _ _ _ f ∙ c .before .before .before .loop .inv .0
+
+-- src/mild.rt:52:9
+add-i : tie.Need-add-i Inv-loop μ-loop
+add-i c = omega (arith, eight-inside _ _ _ (found (c .before .before .before .before .before .args .w .now) (c .before .before .before .loop .i) (c .before .before .bytes-at .result) (c .before .group-of .result) (c .before .before .bytes-at .ensures) (c .before .group-of .ensures)) (omega (arith, c .if1 .left)), c .before .before .before .before .before .good .0 .0)
 
 -- src/mild.rt:43:5
 loop-less : tie.Need-loop-less Inv-loop μ-loop
-loop-less c = omega (arith, run-inside _ _ _ (found (c .before .before .before .before .before .args .w .now) (c .before .before .before .loop .i) (c .before .before .bytes-at .result) (c .before .group-of .result) (c .before .before .bytes-at .ensures) (c .before .group-of .ensures)) (omega (arith, c .if1 .left)), c .if1 .left)
+loop-less c = omega (arith, eight-inside _ _ _ (found (c .before .before .before .before .before .args .w .now) (c .before .before .before .loop .i) (c .before .before .bytes-at .result) (c .before .group-of .result) (c .before .before .bytes-at .ensures) (c .before .group-of .ensures)) (omega (arith, c .if1 .left)))
 
 -- src/mild.rt:43:5
 loop-again : tie.Need-loop-again Inv-loop μ-loop
-loop-again c = (run-more _ _ _ (found (c .before .before .before .before .before .args .w .now) (c .before .before .before .loop .i) (c .before .before .bytes-at .result) (c .before .group-of .result) (c .before .before .bytes-at .ensures) (c .before .group-of .ensures)) ∙ c .before .before .before .loop .inv .0, omega (arith, run-inside _ _ _ (found (c .before .before .before .before .before .args .w .now) (c .before .before .before .loop .i) (c .before .before .bytes-at .result) (c .before .group-of .result) (c .before .before .bytes-at .ensures) (c .before .group-of .ensures)) (omega (arith, c .if1 .left)), c .before .before .before .before .before .good .0 .0))
+loop-again c = let f = found (c .before .before .before .before .before .args .w .now) (c .before .before .before .loop .i) (c .before .before .bytes-at .result) (c .before .group-of .result) (c .before .before .bytes-at .ensures) (c .before .group-of .ensures) in (run-eight _ _ _ f (omega (arith, c .if1 .left)) ∙ c .before .before .before .loop .inv .0, omega (arith, eight-inside _ _ _ f (omega (arith, c .if1 .left)), c .before .before .before .before .before .good .0 .0))
 
 pub run-behind-spec : {M : Type 1} → statement M
 run-behind-spec =
@@ -63,7 +64,8 @@ run-behind-spec =
     bytes-at-requires
     group-of-requires
     cast-step
-    add-i
+    add-end
     returns
+    add-i
     loop-less
     loop-again)

@@ -9,8 +9,8 @@ use Rattle.numbers.proofs.scan.many_from.Statement.{statement}
 use Rattle.numbers.proofs.scan.many_from.Tie as tie
 use Rattle.numbers.proofs.scan.many_from.Reads as reads
 use Rattle.numbers.proofs.scan.many_from.Lts as lts
-use Rattle.numbers.proofs.group.group_of.Reads as group-of-reads
-use Rattle.numbers.proofs.lanes.bytes_at.Reads as bytes-at-reads
+use Rattle.digits.proofs.group_of.Reads as group-of-reads
+use Rattle.digits.proofs.bytes_at.Reads as bytes-at-reads
 use Rattle.numbers.proofs.scan.digits_from.Reads as digits-from-reads
 use Rattle.numbers.proofs.scan.join.Reads as join-reads
 
@@ -32,23 +32,27 @@ bytes-at-requires c κs = search needs
 group-of-requires : tie.Need-group-of-requires Inv-loop μ-loop
 group-of-requires c κs = search needs
 
--- src/scan.rt:183:9
+-- src/scan.rt:184:13
 join-requires : tie.Need-join-requires Inv-loop μ-loop
-join-requires c κs = roomy _ _ _ (found _ _ _ _ (c .before .bytes-at .ensures) (c .group-of .ensures)) (c .before .before .before .before .loop .inv .0) (c .before .before .if1 .taken)
-
--- src/scan.rt:185:13
-returns : tie.Need-returns Inv-loop μ-loop
-returns c = many-stopped _ _ _ (found _ _ _ _ (c .before .before .before .bytes-at .ensures) (c .before .before .group-of .ensures)) (c .before .before .before .before .before .before .loop .inv .0) (c .before .before .before .before .if1 .taken) _ (c .before .before .before .before .before .before .loop .inv .1) _ (c .before .join .ensures) (c .if2 .taken)
+join-requires c κs = roomy _ _ _ (found _ _ _ _ (c .before .before .bytes-at .ensures) (c .before .group-of .ensures)) (c .before .before .before .before .before .loop .inv .0) (c .before .before .before .if1 .taken)
 
 -- src/scan.rt:178:5
 loop-less : tie.Need-loop-less Inv-loop μ-loop
-loop-less c = many-less _ _ _ (found _ _ _ _ (c .before .before .before .bytes-at .ensures) (c .before .before .group-of .ensures)) (c .before .before .before .before .before .before .loop .inv .0) (c .before .before .before .before .if1 .taken) _ (c .before .before .before .before .before .before .loop .inv .1) _ (c .before .join .ensures) (c .if2 .left)
+loop-less c = many-less _ _ _ (found _ _ _ _ (c .before .before .before .bytes-at .ensures) (c .before .before .group-of .ensures)) (c .before .before .before .before .before .before .loop .inv .0) (c .before .before .before .before .if1 .taken) _ (c .before .before .before .before .before .before .loop .inv .1) _ (c .join .ensures) (omega (arith, c .before .if2 .taken))
 
 -- src/scan.rt:178:5
 loop-again : tie.Need-loop-again Inv-loop μ-loop
-loop-again c = many-more _ _ _ (found _ _ _ _ (c .before .before .before .bytes-at .ensures) (c .before .before .group-of .ensures)) (c .before .before .before .before .before .before .loop .inv .0) (c .before .before .before .before .if1 .taken) _ (c .before .before .before .before .before .before .loop .inv .1) _ (c .before .join .ensures)
+loop-again c = many-more _ _ _ (found _ _ _ _ (c .before .before .before .bytes-at .ensures) (c .before .before .group-of .ensures)) (c .before .before .before .before .before .before .loop .inv .0) (c .before .before .before .before .if1 .taken) _ (c .before .before .before .before .before .before .loop .inv .1) _ (c .join .ensures)
 
--- src/scan.rt:188:5
+-- src/scan.rt:186:13
+join-requires-2 : tie.Need-join-requires-2 Inv-loop μ-loop
+join-requires-2 c κs = roomy _ _ _ (found _ _ _ _ (c .before .before .bytes-at .ensures) (c .before .group-of .ensures)) (c .before .before .before .before .before .loop .inv .0) (c .before .before .before .if1 .taken)
+
+-- src/scan.rt:186:13
+returns : tie.Need-returns Inv-loop μ-loop
+returns c = let f = found _ _ _ _ (c .before .before .before .bytes-at .ensures) (c .before .before .group-of .ensures) in many-stopped _ _ _ f (c .before .before .before .before .before .before .loop .inv .0) (c .before .before .before .before .if1 .taken) _ (c .before .before .before .before .before .before .loop .inv .1) _ (c .join2 .ensures) (omega (arith, f .few, c .before .if2 .left))
+
+-- src/scan.rt:189:5
 digits-from-requires : tie.Need-digits-from-requires Inv-loop μ-loop
 digits-from-requires c κs = c .before .before .loop .inv .0
 
@@ -66,8 +70,9 @@ many-from-spec =
     bytes-at-requires
     group-of-requires
     join-requires
-    returns
     loop-less
     loop-again
+    join-requires-2
+    returns
     digits-from-requires
     returns-2)

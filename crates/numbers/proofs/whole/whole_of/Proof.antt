@@ -5,7 +5,7 @@ use lib.Dec.{lit<}
 use native.Mathlib.Nat.{pow-zero}
 use lib.ListN.{length, drop}
 use mir.ValLaws.{fits-le}
-use Rattle.numbers.specs.Whole.{digitsIn}
+use Rattle.digits.specs.Digits.{digitsIn}
 use Rattle.numbers.proofs.Places.{digitsIn-more}
 use Rattle.numbers.proofs.Bases.{whole-short, whole-long, whole-stop, whole-end, fits, grows}
 use borrow.Author.Needs.{needs}

@@ -2,7 +2,7 @@ use mathlib.Core.Path.{refl, ap, _∙_}
 use Rattle.layout.specs.Read.{answerOf}
 use Rattle.layout.proofs.Shown.{shown-only}
 use Rattle.judging.specs.declared.judge.Room.{Room}
-use Rattle.survey.specs.Sections.{roomAll}
+use Rattle.sections.specs.Sections.{roomAll}
 use Rattle.survey.specs.Files.{verdict}
 use Rattle.survey.specs.Sites.{placesOf}
 use Rattle.reader.proofs.Cored.{few-coordinates, few-accepted, core-refused, core-accepted}

@@ -1,6 +1,6 @@
 use Prim.Native.Nat.{_/_}
 use mathlib.Core.Path.{ap}
-use Rattle.judging.specs.declared.listed.Limit.{Limit}
+use Rattle.listing.specs.declared.listed.Limit.{Limit}
 use borrow.Author.Needs.{needs}
 use native.Mathlib.Omega.{arith}
 use borrow.Author.Needs.{needs}

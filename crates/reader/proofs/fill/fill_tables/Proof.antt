@@ -8,7 +8,7 @@ use Rattle.reader.proofs.fill.fill_tables.Tie as tie
 use Rattle.reader.proofs.fill.fill_tables.Reads as reads
 use Rattle.reader.proofs.fill.fill_tables.Lts as lts
 use Rattle.reader.proofs.fill.index_of.Reads as index-of-reads
-use Rattle.reader.proofs.sections.section_into.Reads as section-into-reads
+use Rattle.reader.proofs.parts.section_into.Reads as section-into-reads
 
 abbrev Inv-loop : tie.InvT-loop
 Inv-loop s places n d mantissas₀ exponents₀ faces₀ cells₀ list₀ z₀ mantissas exponents faces cells list z =

@@ -1,4 +1,4 @@
-use Rattle.steps.specs.Heads.{fifthFor}
+use Rattle.heads.specs.Heads.{fifthFor}
 use mathlib.Core.Path.{refl, _∙_}
 use Rattle.reader.proofs.Topped.{element-by, face-element}
 use borrow.Author.Needs.{needs}

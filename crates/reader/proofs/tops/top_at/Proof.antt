@@ -8,7 +8,7 @@ use Rattle.reader.proofs.tops.top_at.Reads as reads
 use Rattle.reader.proofs.tops.top_at.Lts as lts
 use Rattle.reader.proofs.tops.no_top.Reads as no-top-reads
 use Rattle.reader.proofs.tops.top_of.Reads as top-of-reads
-use Rattle.steps.proofs.head_at.Reads as head-at-reads
+use Rattle.heads.proofs.head_at.Reads as head-at-reads
 
 -- src/tops.rt:88:9
 head-at-requires : tie.Need-head-at-requires

@@ -5,7 +5,7 @@ use Rattle.steps.proofs.quick.hexes_from.Statement.{statement}
 use Rattle.steps.proofs.quick.hexes_from.Tie as tie
 use Rattle.steps.proofs.quick.hexes_from.Reads as reads
 use Rattle.steps.proofs.quick.hexes_from.Lts as lts
-use Rattle.numbers.proofs.hexes_in.Reads as hexes-in-reads
+use Rattle.digits.proofs.hexes_in.Reads as hexes-in-reads
 
 -- src/quick.rt:48:9
 returns : tie.Need-returns

@@ -1,5 +1,5 @@
 use Rattle.survey.proofs.Filing.{Filing, nothing-kept, filing-start, filing-last, filing-no, ahead-here, beyond, filing-more}
-use Rattle.survey.specs.Sections.{roomAll}
+use Rattle.sections.specs.Sections.{roomAll}
 use lib.ListN.{length}
 use Prim.Native.Nat.{_-_}
 use mathlib.Core.Path.{_∙_, sym}
@@ -11,10 +11,10 @@ use Rattle.survey.proofs.file.file_from.Reads as reads
 use Rattle.survey.proofs.file.file_from.Lts as lts
 use Rattle.survey.proofs.file.last_of.Reads as last-of-reads
 use Rattle.survey.proofs.file.refused.Reads as refused-reads
-use Rattle.survey.proofs.note.keep.Reads as keep-reads
-use Rattle.survey.proofs.note.noted.Reads as noted-reads
-use Rattle.survey.proofs.section.section_at.Reads as section-at-reads
-use Rattle.tokens.proofs.Cursor.token.Reads as token-reads
+use Rattle.sections.proofs.keep.Reads as keep-reads
+use Rattle.sections.proofs.noted.Reads as noted-reads
+use Rattle.sections.proofs.section_at.Reads as section-at-reads
+use Rattle.survey.proofs.file.token_at.Reads as token-at-reads
 
 abbrev Inv-loop : tie.InvT-loop
 Inv-loop s room ids₀ firsts₀ lasts₀ places₀ x₀ c₀ k₀ ids firsts lasts places x c k = Filing s (roomAll room) places₀ ids firsts lasts places x c k
@@ -25,8 +25,8 @@ abbrev μ-loop : tie.MeasureT-loop
 loop-holds : tie.Need-loop-holds Inv-loop μ-loop
 loop-holds c = let p = c .before .before .before .before .before .pre in filing-start _ _ _ _ _ _ _ (nothing-kept _ _ _) (p .1 .0) (p .1 .1 .0) (p .1 .1 .1)
 
-token-requires : tie.Need-token-requires Inv-loop μ-loop
-token-requires c κs = search needs
+token-at-requires : tie.Need-token-at-requires Inv-loop μ-loop
+token-at-requires c κs = search needs
 
 enum-told : tie.Need-enum-told Inv-loop μ-loop
 enum-told c = search needs
@@ -47,7 +47,7 @@ same-length-4 : tie.Need-same-length-4 Inv-loop μ-loop
 same-length-4 c = c .before .before .before .before .before .before .loop .inv .places-long
 
 returns : tie.Need-returns Inv-loop μ-loop
-returns c = filing-last _ (roomAll (c .before .before .before .before .before .before .before .before .before .before .before .before .args .room)) _ _ _ _ _ _ _ _ (c .before .before .before .before .before .before .loop .inv) _ (c .before .before .before .before .before .token .ensures) (c .before .before .before .before .match .keys2) (c .last-of .ensures)
+returns c = filing-last _ (roomAll (c .before .before .before .before .before .before .before .before .before .before .before .before .args .room)) _ _ _ _ _ _ _ _ (c .before .before .before .before .before .before .loop .inv) _ (c .before .before .before .before .before .token-at .ensures) (c .before .before .before .before .match .keys2) (c .last-of .ensures)
 
 add-k : tie.Need-add-k Inv-loop μ-loop
 add-k c = omega (arith, c .before .before .before .loop .inv .few, c .before .before .before .loop .inv .within, c .before .before .before .before .before .before .before .before .before .pre .0)
@@ -74,13 +74,13 @@ same-length-8 : tie.Need-same-length-8 Inv-loop μ-loop
 same-length-8 c = c .before .before .before .before .before .before .before .before .before .before .before .loop .inv .places-long
 
 returns-2 : tie.Need-returns-2 Inv-loop μ-loop
-returns-2 c = filing-no _ (roomAll (c .before .before .before .before .before .before .before .before .before .before .before .before .before .before .before .before .before .args .room)) _ _ _ _ _ _ _ _ (c .before .before .before .before .before .before .before .before .before .before .before .loop .inv) _ (c .before .before .before .before .before .before .before .before .before .before .token .ensures) (c .before .before .before .before .before .before .before .before .enum-told .given .1) _ (c .before .before .before .before .section-at .ensures) (c .before .before .r .given .1) (c .refused .ensures)
+returns-2 c = filing-no _ (roomAll (c .before .before .before .before .before .before .before .before .before .before .before .before .before .before .before .before .before .args .room)) _ _ _ _ _ _ _ _ (c .before .before .before .before .before .before .before .before .before .before .before .loop .inv) _ (c .before .before .before .before .before .before .before .before .before .before .token-at .ensures) (c .before .before .before .before .before .before .before .before .enum-told .given .1) _ (c .before .before .before .before .section-at .ensures) (c .before .before .r .given .1) (c .refused .ensures)
 
 enum-known-r-2 : tie.Need-enum-known-r-2 Inv-loop μ-loop
 enum-known-r-2 c = search needs
 
 cast-place : tie.Need-cast-place Inv-loop μ-loop
-cast-place c = let l = ahead-here _ (roomAll (c .before .before .before .before .before .before .before .before .before .before .before .before .before .before .before .before .args .room)) _ _ _ _ _ _ _ _ (c .before .before .before .before .before .before .before .before .before .before .loop .inv) _ (c .before .before .before .before .before .before .before .before .before .token .ensures) (c .before .before .before .before .before .before .before .enum-told .given .1) in omega (arith, l, c .before .before .before .before .before .before .before .before .before .before .before .before .before .before .before .before .pre .0)
+cast-place c = let l = ahead-here _ (roomAll (c .before .before .before .before .before .before .before .before .before .before .before .before .before .before .before .before .args .room)) _ _ _ _ _ _ _ _ (c .before .before .before .before .before .before .before .before .before .before .loop .inv) _ (c .before .before .before .before .before .before .before .before .before .token-at .ensures) (c .before .before .before .before .before .before .before .enum-told .given .1) in omega (arith, l, c .before .before .before .before .before .before .before .before .before .before .before .before .before .before .before .before .pre .0)
 
 keep-requires : tie.Need-keep-requires Inv-loop μ-loop
 keep-requires c κs = search needs
@@ -89,10 +89,10 @@ noted-requires : tie.Need-noted-requires Inv-loop μ-loop
 noted-requires c κs = search needs
 
 loop-less : tie.Need-loop-less Inv-loop μ-loop
-loop-less c = let b = beyond _ (roomAll (c .before .before .before .before .before .before .before .before .before .before .before .before .before .before .before .before .before .before .before .before .before .before .before .before .before .before .before .before .before .before .args .room)) _ _ _ _ _ _ _ _ (c .before .before .before .before .before .before .before .before .before .before .before .before .before .before .before .before .before .before .before .before .before .before .before .before .loop .inv) _ (c .before .before .before .before .before .before .before .before .before .before .before .before .before .before .before .before .before .before .before .before .before .before .before .token .ensures) (c .before .before .before .before .before .before .before .before .before .before .before .before .before .before .before .before .before .before .before .before .before .enum-told .given .1) _ _ (c .before .before .before .before .before .before .before .before .before .before .before .before .before .before .before .before .before .section-at .ensures) (c .before .before .before .before .before .before .before .before .before .before .before .before .before .before .before .r2 .given .1) in omega arith
+loop-less c = let b = beyond _ (roomAll (c .before .before .before .before .before .before .before .before .before .before .before .before .before .before .before .before .before .before .before .before .before .before .before .before .before .before .before .before .before .before .args .room)) _ _ _ _ _ _ _ _ (c .before .before .before .before .before .before .before .before .before .before .before .before .before .before .before .before .before .before .before .before .before .before .before .before .loop .inv) _ (c .before .before .before .before .before .before .before .before .before .before .before .before .before .before .before .before .before .before .before .before .before .before .before .token-at .ensures) (c .before .before .before .before .before .before .before .before .before .before .before .before .before .before .before .before .before .before .before .before .before .enum-told .given .1) _ _ (c .before .before .before .before .before .before .before .before .before .before .before .before .before .before .before .before .before .section-at .ensures) (c .before .before .before .before .before .before .before .before .before .before .before .before .before .before .before .r2 .given .1) in omega arith
 
 loop-again : tie.Need-loop-again Inv-loop μ-loop
-loop-again c = filing-more _ (roomAll (c .before .before .before .before .before .before .before .before .before .before .before .before .before .before .before .before .before .before .before .before .before .before .before .before .before .before .before .before .before .before .args .room)) _ _ _ _ _ _ _ _ (c .before .before .before .before .before .before .before .before .before .before .before .before .before .before .before .before .before .before .before .before .before .before .before .before .loop .inv) _ (c .before .before .before .before .before .before .before .before .before .before .before .before .before .before .before .before .before .before .before .before .before .before .before .token .ensures) (c .before .before .before .before .before .before .before .before .before .before .before .before .before .before .before .before .before .before .before .before .before .enum-told .given .1) _ _ (c .before .before .before .before .before .before .before .before .before .before .before .before .before .before .before .before .before .section-at .ensures) (c .before .before .before .before .before .before .before .before .before .before .before .before .before .before .before .r2 .given .1) (c .before .before .before .before .before .before .before .before .before .keep .ensures .0) (c .before .before .before .before .before .before .before .before .before .keep .ensures .1 .0) (c .before .before .before .before .before .before .before .before .before .keep .ensures .1 .1 .0) (c .before .before .before .before .before .before .before .before .before .keep .ensures .1 .1 .1) (c .noted .ensures)
+loop-again c = filing-more _ (roomAll (c .before .before .before .before .before .before .before .before .before .before .before .before .before .before .before .before .before .before .before .before .before .before .before .before .before .before .before .before .before .before .args .room)) _ _ _ _ _ _ _ _ (c .before .before .before .before .before .before .before .before .before .before .before .before .before .before .before .before .before .before .before .before .before .before .before .before .loop .inv) _ (c .before .before .before .before .before .before .before .before .before .before .before .before .before .before .before .before .before .before .before .before .before .before .before .token-at .ensures) (c .before .before .before .before .before .before .before .before .before .before .before .before .before .before .before .before .before .before .before .before .before .enum-told .given .1) _ _ (c .before .before .before .before .before .before .before .before .before .before .before .before .before .before .before .before .before .section-at .ensures) (c .before .before .before .before .before .before .before .before .before .before .before .before .before .before .before .r2 .given .1) (c .before .before .before .before .before .before .before .before .before .keep .ensures .0) (c .before .before .before .before .before .before .before .before .before .keep .ensures .1 .0) (c .before .before .before .before .before .before .before .before .before .keep .ensures .1 .1 .0) (c .before .before .before .before .before .before .before .before .before .keep .ensures .1 .1 .1) (c .noted .ensures)
 
 pub file-from-spec : {M : Type 1} → statement M
 file-from-spec =
@@ -101,7 +101,7 @@ file-from-spec =
     Inv-loop
     μ-loop
     loop-holds
-    token-requires
+    token-at-requires
     enum-told
     last-of-requires
     same-length

@@ -1,7 +1,7 @@
 use mathlib.Core.Path.{ap}
 use Rattle.layout.specs.Replies.{shown}
 use Rattle.survey.proofs.Closing.{too-long, not-too-long, no-places, its-places}
-use Rattle.survey.specs.Sections.{roomAll}
+use Rattle.sections.specs.Sections.{roomAll}
 use borrow.Author.Needs.{needs}
 use native.Mathlib.Omega.{arith}
 use Rattle.survey.proofs.file.locate.Statement.{statement}

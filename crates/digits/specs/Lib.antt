@@ -1,0 +1,4 @@
+pub mod Digits
+pub mod Hexes
+pub mod Lanes
+pub mod Couples

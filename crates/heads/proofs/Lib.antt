@@ -1,0 +1,5 @@
+pub mod Stepping
+pub mod Headers
+pub mod Alike
+mod Eights
+mod Shown

@@ -1,0 +1,6 @@
+pub mod Gates
+pub mod Sections
+pub mod Ids
+pub mod Noting
+pub mod Alike
+pub mod Only
