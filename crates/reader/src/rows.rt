@@ -18,9 +18,6 @@ use mesh::store;
 use steps::Two;
 use steps::known_two;
 
-// The places of 4,096 face rows: indices of three digits.
-const SHORT_PLACES: usize = 32768;
-
 // What a row is: a face of n nodes, a face that says how many it has, a cell that says its element.
 pub enum Form {
     Facing(u32),
@@ -36,14 +33,11 @@ fn put_word(s: &[u8], at: usize, words: &mut [u32], k: usize) -> usize
     v.next
 }
 
-// The next two words together, where as many are left and both are short. Far behind in a table indices are long, and the look would be in vain.
-fn two_left(s: &[u8], at: usize, left: u32, place: usize) -> Two
+// The next two words together, where as many are left and both are short.
+fn two_left(s: &[u8], at: usize, left: u32) -> Two
     ensures { λ r. ⌜ TwoLeft (now (s .entry)) at left r ⌝ }
 {
     if left < 2 {
-        return Two::Not;
-    }
-    if SHORT_PLACES <= place {
         return Two::Not;
     }
     known_two(s, at)
@@ -58,7 +52,7 @@ fn put_words(s: &[u8], at: usize, n: u32, words: &mut [u32], k: usize) -> usize
     let mut left = n;
     let mut i = k;
     while 0 < left {
-        let t = two_left(s, c, left, i);
+        let t = two_left(s, c, left);
         match t {
             Two::Is {
                 first,
