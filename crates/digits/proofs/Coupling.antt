@@ -1,26 +1,26 @@
 -- Two numbers among eight bytes: what `couple_in` answers is what their digits say. Assumes nothing.
 use Prim.Native.Nat.{ℕ, zero, suc, _+_, _-_, _*_, _/_, _%_, _^_, _≤_, _<_}
-use native.Mathlib.Nat.{mul-assoc, add-mul, mul-one, zero-mul, mul-le-mul-right, mod-eq-of-lt, pow-zero}
+use native.Mathlib.Nat.{mul-assoc, add-mul, mul-one, mul-le-mul-right, mod-eq-of-lt, pow-zero}
 use native.Mathlib.Omega.{arith}
 use mathlib.Core.Path.{_≡_, refl, sym, ap, ap₂, subst, _∙_}
 use mathlib.Core.List.{List, [], _∷_, _++_, map}
 use mathlib.Core.Bool.{Bool, true, false, _&&_}
-use borrow.Author.Tests.{lt-ltb, le-leb, lt-leb, le-ltb, eqb-true, eq-eqb, ne-eqb, leb-true, leb-false, ltb-true, ltb-false}
+use borrow.Author.Tests.{lt-ltb, le-leb, lt-leb, le-ltb, eqb-true, eq-eqb, ne-eqb, leb-true, leb-false, ltb-true}
 use lib.Dec.{leb, ltb, eqb, lit<, lit≤}
-use lib.ListN.{length, take, drop, length-append, length-map, length-take, length-drop, take-append-drop}
+use lib.ListN.{length, take, drop, length-map, length-drop, take-append-drop}
 use lib.Seq.{take-append-seam, length-take-le, take-add}
 use lib.Bits.{bitAnd, bitOr, bitXor, and-block, and-self, and-zero-l, and-le-r, and-mask}
-use lib.Count.{trailingZeros, trailing-le, trailing-of-zero}
-use lib.Pow.{pow-add, pow-pos, high, low, shl-exact}
-use Rattle.facts.proofs.Branch.{either, split, differ}
+use lib.Count.{trailingZeros, trailing-of-zero}
+use lib.Pow.{pow-add, high, low, shl-exact}
+use Rattle.facts.proofs.Branch.{either, split}
 use Rattle.facts.proofs.Decides.{and-split}
 use Rattle.digits.specs.declared.couple.Couple.{Couple}
-use Rattle.digits.specs.Digits.{digitOf, digitsIn, Figures, worth}
+use Rattle.digits.specs.Digits.{digitOf, digitsIn, Figures}
 use Rattle.digits.specs.Lanes.{lanes, Under, Laned, marksOf, valuesOf, foldedOf}
 use Rattle.digits.specs.Couples.{endsOf, endIn, nibblesOf, gapOf, endOf, coupleBy, coupleOf}
 use Rattle.digits.proofs.Digits.{digitsIn-part}
 use Rattle.digits.proofs.Laning.{written, trailing-shift}
-use Rattle.digits.proofs.Grouping.{markOf, value, value-is, marks-in, values-in, folded-in, both, same, small-tens}
+use Rattle.digits.proofs.Grouping.{markOf, value, value-is, marks-in, values-in, folded-in, both, same}
 use Rattle.digits.proofs.Gathered.{zerosOf, passed, stopped, counted, map-append, under-left, written-worth}
 
 -- ---- what the code computes
@@ -273,10 +273,6 @@ module _ (w : List ℕ) (n : length w ≡ 8) (u : Under 256 w) where
           more = more;
           few = few;
         }
-
-abbrev isCouple : Couple → Bool
-isCouple (Couple.Is f v g e) = true
-isCouple Couple.Not = false
 
 -- the same of whatever answer it is
 abbrev pub CoupledBy : List ℕ → Couple → Type 0
