@@ -1,10 +1,13 @@
 //! Case files with damage: whatever the reader and the audit say, places and texts can be found for it, and the rows that are marked hold the words of the tables.
 
+mod shares;
+
 use ravneket::locate::Rows;
 use ravneket::token::hexadecimal;
 use ravneket::{Fault, Lines, Mesh, Refusal};
+use shares::{shared, summed};
 use std::ops::Range;
-use std::path::PathBuf;
+use std::path::{Path, PathBuf};
 
 /// A small generator of numbers, the same in every run.
 struct Numbers(u64);
@@ -77,34 +80,44 @@ fn check_fault(text: &[u8], mesh: &Mesh, rows: &Rows, lines: &Lines, fault: &Fau
     assert!(fault.explain(mesh).contains(&format!("; zone {}", zone.zone)));
 }
 
+/// Refusals by number and faults by kind of a file that was damaged in some ways.
+fn damage_told(file: &Path, numbers: &mut Numbers) -> ([u64; 18], [u64; 10]) {
+    let whole = std::fs::read(file).unwrap();
+    let rounds = if whole.len() > 2000 { 1 } else { 15 };
+    let (mut refused, mut kinds) = ([0; 18], [0; 10]);
+    for _ in 0..rounds {
+        let text = damaged(&whole, numbers);
+        match Mesh::read(&text) {
+            Err(refusal) => {
+                refused[usize::from(refusal.kind.number())] += 1;
+                check_refusal(&text, &refusal);
+            }
+            Ok(mesh) => {
+                let audit = mesh.audit();
+                let (rows, lines) = (Rows::find(&text, &audit.faults), Lines::new(&text));
+                for fault in &audit.faults {
+                    kinds[usize::from(fault.kind())] += 1;
+                    check_fault(&text, &mesh, &rows, &lines, fault);
+                }
+            }
+        }
+    }
+    (refused, kinds)
+}
+
 #[test]
 fn damage_is_always_told() {
     let folder = PathBuf::from(env!("CARGO_MANIFEST_DIR")).join("../crates/meshcases/data");
     let mut files: Vec<_> = std::fs::read_dir(folder).unwrap().map(|file| file.unwrap().path()).collect();
     files.sort();
-    let mut numbers = Numbers(0x9e37_79b9_7f4a_7c15);
-    let (mut refused, mut kinds) = ([0; 18], [0; 10]);
-    for file in files {
-        let whole = std::fs::read(file).unwrap();
-        let rounds = if whole.len() > 2000 { 1 } else { 15 };
-        for _ in 0..rounds {
-            let text = damaged(&whole, &mut numbers);
-            match Mesh::read(&text) {
-                Err(refusal) => {
-                    refused[usize::from(refusal.kind.number())] += 1;
-                    check_refusal(&text, &refusal);
-                }
-                Ok(mesh) => {
-                    let audit = mesh.audit();
-                    let (rows, lines) = (Rows::find(&text, &audit.faults), Lines::new(&text));
-                    for fault in &audit.faults {
-                        kinds[usize::from(fault.kind())] += 1;
-                        check_fault(&text, &mesh, &rows, &lines, fault);
-                    }
-                }
-            }
-        }
-    }
+    let told = shared(|share, shares| {
+        let own = files.iter().enumerate().skip(share).step_by(shares);
+        // Each file has numbers of its own, so that it does not matter who runs it.
+        own.map(|(place, file)| damage_told(file, &mut Numbers(0x9e37_79b9_7f4a_7c15 + place as u64)))
+            .collect::<Vec<_>>()
+    });
+    let (refused, kinds): (Vec<_>, Vec<_>) = told.into_iter().flatten().unzip();
+    let (refused, kinds) = (summed(refused), summed(kinds));
     // All but those that need a long file, small tables or a call of the audit alone.
     assert!([2, 3, 4, 5, 6, 8, 9, 10, 12, 13, 14].iter().all(|&number| refused[number] > 0), "{refused:?}");
     assert!(kinds[1..].iter().all(|&number| number > 0), "{kinds:?}");

@@ -4,6 +4,7 @@
 
 mod generate;
 mod plain;
+mod shares;
 
 use std::path::PathBuf;
 
@@ -11,6 +12,7 @@ use generate::lent::{first, pattern, sizes, Auditor, Lent, Sizes};
 use generate::plan::{say, Plan};
 use generate::{large, tables, Random};
 use ravneket::raw;
+use shares::{shared, summed};
 
 const FILE_BYTES: usize = 8_388_608;
 /// Rows of each kind that hold every small mesh.
@@ -68,21 +70,25 @@ fn all_rooms(random: &mut Random, text: &[u8], tally: &mut [u64], again: &dyn Fn
 fn texts() {
     let plan = Plan::new("texts", 1);
     let long = vec![b' '; FILE_BYTES + 9];
-    let mut tally = [0; 18];
-    let mut inputs = 0;
-    for case in plan.cases.clone() {
-        let mut random = Random::new(plan.seed, case);
-        let again = || plan.again(case);
-        inputs += 1;
-        if case % 1_000 == 999 {
-            let text = &long[..FILE_BYTES + random.between(1, 9)];
-            all_rooms(&mut random, text, &mut tally, &again);
-        } else {
-            let text = generate::text(&mut random);
-            all_rooms(&mut random, &text, &mut tally, &again);
+    let tallies = shared(|share, shares| {
+        // The last place counts the inputs.
+        let mut tally = [0; 19];
+        for case in plan.cases.clone().skip(share).step_by(shares) {
+            let mut random = Random::new(plan.seed, case);
+            let again = || plan.again(case);
+            tally[18] += 1;
+            if case % 1_000 == 999 {
+                let text = &long[..FILE_BYTES + random.between(1, 9)];
+                all_rooms(&mut random, text, &mut tally, &again);
+            } else {
+                let text = generate::text(&mut random);
+                all_rooms(&mut random, &text, &mut tally, &again);
+            }
         }
-    }
-    plan.tell(inputs, "answers by number", &tally, 0..=14);
+        tally
+    });
+    let tally = summed(tallies);
+    plan.tell(tally[18], "answers by number", &tally[..18], 0..=14);
 }
 
 #[test]

@@ -6,7 +6,7 @@ use mathlib.Core.Bool.{Bool, true, false}
 use mathlib.Core.List.{List, [], _++_}
 use lib.ListN.{length, getD, length-append}
 use Rattle.mesh.specs.Rows.{faceAt, cellAt}
-use Rattle.audit.specs.All.{faceFaults, cellFaults}
+use Rattle.faults.specs.All.{faceFaults, cellFaults}
 use Rattle.records.specs.declared.Fault.{Fault}
 use Rattle.records.specs.declared.Pen.{Pen}
 use Rattle.records.specs.Record.{narrow, fault}

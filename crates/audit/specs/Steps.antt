@@ -2,24 +2,20 @@
 use Prim.Native.Nat.{ℕ, _+_, _-_, _*_, _≤_, _<_}
 use mathlib.Core.Path.{_≡_}
 use mathlib.Core.List.{List, _++_}
-use mathlib.Core.Bool.{Bool, true, false}
-use lib.Dec.{eqb, ltb}
-use lib.ListN.{length, drop, getD, set}
+use mathlib.Core.Bool.{Bool, true}
+use lib.ListN.{length, drop}
 use Rattle.mesh.specs.Rows.{places, faceAt}
 use Rattle.mesh.specs.declared.Face.{Face}
 use Rattle.records.specs.declared.Fault.{Fault}
 use Rattle.records.specs.Record.{narrow}
 use Rattle.records.specs.Laid.{penAt, laid, run}
 use Rattle.faults.specs.declared.Frame.{Frame}
-use Rattle.faults.specs.Over.{each, sumOver, listed}
+use Rattle.faults.specs.Over.{each, listed}
 use Rattle.faults.specs.Faults.{anyFault}
-use Rattle.faults.specs.Sides.{sidesNaming, countOver}
+use Rattle.faults.specs.Sides.{countOver}
+use Rattle.faults.specs.All.{faceFaults}
+use Rattle.faults.specs.Counts.{bump, Tallying}
 use Rattle.audit.specs.declared.Stand.{Stand}
-use Rattle.audit.specs.All.{faceFaults}
-
--- one more for the cell x, where x is 1 to n
-unfoldable pub bump : ℕ → ℕ → List ℕ → List ℕ
-bump n x l = elim (eqb x 0) [ true ↦ l | false ↦ elim (ltb n x) [ true ↦ l | false ↦ set l (x - 1) (getD l (x - 1) 0 + 1) ] ]
 
 abbrev pub atStart : Stand
 atStart = record { pen = penAt 0 true; total = 0 }
@@ -34,17 +30,6 @@ pub record Visited (old : List ℕ) (s : Stand) (fs : List Fault) (n : ℕ) (new
 pub record Tallied (test : Frame → Face → Bool) (frame : Frame) (face : Face) (first last : List ℕ) (r : Bool) : Type 0 where
   pub counts : last ≡ bump (frame .cells) (face .left) (bump (frame .cells) (face .right) first)
   pub answer : r ≡ test frame face
-
--- the counts of the cells while faces are gone through, behind the first f of them; the counts behind the cells are as at first
-module _ (n : ℕ) (rows : List ℕ) (faces cells : ℕ) where
-  -- what the other faces still add to a count
-  abbrev pub left : ℕ → ℕ → ℕ
-  left f i = sumOver (λ g. sidesNaming (faceAt n rows (g - 1)) (i + 1)) (f + 1) (faces - f)
-
-  pub record Tallying (first : List ℕ) (f : ℕ) (counts : List ℕ) : Type 0 where
-    pub sums : (i : ℕ) → i < cells → getD counts i 0 + left f i ≡ countOver n rows faces (i + 1)
-    pub rest : drop cells counts ≡ drop cells first
-    pub kept : length counts ≡ length first
 
 -- the faces from `from` on, counted from 0, up to the first with a fault: it is r, or all are sound and r is `faces`
 pub record Sound (frame : Frame) (from faces : ℕ) (rows first last : List ℕ) (r : ℕ) : Type 0 where

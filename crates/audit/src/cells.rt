@@ -11,7 +11,7 @@ ghost use Rattle.sizes.specs.Sizes.{rows as most};
 ghost use Rattle.mesh.specs.Rows.{cellWords, rowsIn, cellAt};
 ghost use Rattle.faults.specs.Over.{each};
 ghost use Rattle.faults.specs.Faults.{cellFaultAt, cellExtra};
-ghost use Rattle.audit.specs.All.{cellFaults};
+ghost use Rattle.faults.specs.All.{cellFaults};
 ghost use Rattle.audit.specs.Steps.{Visited};
 
 fn extra_of(kind: u32, count: u32) -> u32

@@ -14,7 +14,8 @@ ghost use Rattle.sizes.specs.Sizes.{rows as most};
 ghost use Rattle.mesh.specs.Rows.{places, faceWords, rowsIn, faceAt};
 ghost use Rattle.records.specs.Record.{fault};
 ghost use Rattle.faults.specs.Faults.{faultIf};
-ghost use Rattle.audit.specs.Steps.{Visited, Tallying, Sound, Faced};
+ghost use Rattle.faults.specs.Counts.{Tallying};
+ghost use Rattle.audit.specs.Steps.{Visited, Sound, Faced};
 
 // One kind at one position of a face, where its bit is set.
 fn visit(bit: u32, number: u32, kind: u32, p: u32, list: &mut [u8], s: Stand) -> Stand
@@ -96,7 +97,7 @@ pub(crate) fn audit_faces(
         let face = face_of(rows, f);
         f += 1;
         let number = f as u32;
-        let mut marks = faults::marks_of(frame, face);
+        let mut marks = marks::marks_of(frame, face);
         let mut kind: u32 = 1;
         'kinds: while 0 < marks {
             let mut here = marks % 16;

@@ -2,7 +2,7 @@
 use mathlib.Core.Path.{sym, _∙_}
 use denote.Ref.{now}
 use Rattle.facts.specs.Alike.{Alike}
-use Rattle.steps.specs.Views.{pastView}
+use Rattle.spots.specs.Pasts.{pastView}
 use Rattle.bodies.proofs.bodies.body_at.Reads as body-at
 
 pub body-at-alike : Alike (λ κ a r. pastView (now (a .0)) r) body-at.Post

@@ -11,12 +11,13 @@ use Rattle.layout.specs.Items as Items
 use Rattle.layout.specs.Reading as R
 use Rattle.layout.specs.Reading.{Got, got, bad, Reader, next, hexWord, pairWord, rowsOf}
 use Rattle.layout.specs.Sections.{hexOf}
-use Rattle.steps.specs.declared.step.Bad.{Bad}
-use Rattle.steps.specs.declared.step.Past.{Past}
+use Rattle.spots.specs.declared.Bad.{Bad}
+use Rattle.spots.specs.declared.Past.{Past}
 use Rattle.steps.specs.declared.step.Num.{Num}
 use Rattle.steps.specs.declared.step.Pair.{Pair}
 use Rattle.bodies.specs.declared.rows.Word.{Word}
-use Rattle.steps.specs.Views.{pastView, numView, pairView, closeView, NumAhead, CloseAhead, NumAt, PairAt, CloseAt, PastAt}
+use Rattle.steps.specs.Views.{numView, pairView, closeView, NumAhead, CloseAhead, NumAt, PairAt, CloseAt}
+use Rattle.spots.specs.Pasts.{pastView, PastAt}
 use Rattle.steps.proofs.Pairing.{Paired}
 use Rattle.bodies.specs.Bodies.{forget, pastOf, wordUnit, NotBefore, LooseAt}
 

@@ -3,5 +3,4 @@ pub mod Loose
 pub mod Flatly
 pub mod Shapes
 pub mod Alike
-mod Counted
 mod Partly

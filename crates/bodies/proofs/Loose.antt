@@ -12,12 +12,13 @@ use Rattle.layout.specs.Items.{Facet}
 use Rattle.layout.specs.Reading as R
 use Rattle.layout.specs.Reading.{Got, got, bad, Reader, next, pure, check, hexWord, leftOf, rightOf, pairWord, rowsOf, enclosedOf}
 use Rattle.layout.specs.Sections.{hexOf, elementOf, facingOf, mixedOf}
-use Rattle.steps.specs.declared.step.Bad.{Bad}
-use Rattle.steps.specs.declared.step.Past.{Past}
+use Rattle.spots.specs.declared.Bad.{Bad}
+use Rattle.spots.specs.declared.Past.{Past}
 use Rattle.steps.specs.declared.step.Close.{Close}
 use Rattle.steps.specs.declared.step.Num.{Num}
 use Rattle.bodies.specs.declared.rows.Word.{Word}
-use Rattle.steps.specs.Views.{pastView, closeView, PastAt, CloseAt, NumAt}
+use Rattle.steps.specs.Views.{closeView, CloseAt, NumAt}
+use Rattle.spots.specs.Pasts.{pastView, PastAt}
 use Rattle.bodies.specs.Bodies.{forget, wordUnit, listedOf, closedOf, NotBefore, LooseAt}
 use Rattle.steps.proofs.Chain.{past-no, past-to, past-ahead, close-no, close-to, close-ahead, num-no, num-to, num-ahead}
 use Rattle.bodies.proofs.Forgotten.{dropped}

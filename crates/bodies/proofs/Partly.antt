@@ -22,19 +22,22 @@ use Rattle.numbers.specs.Whole.{hexadecimalOf}
 use Rattle.digits.specs.Hexes.{hexesOf}
 use Rattle.digits.specs.Lanes.{Laned}
 use Rattle.digits.proofs.Digits.{Begins, NoDigit, figures-append}
-use Rattle.numbers.proofs.Pieces.{wholeOf-exact}
+use Rattle.numbers.proofs.Wholes.{wholeOf-exact}
 use Rattle.numbers.proofs.AtOnce.{hexes-all, digit-high}
-use Rattle.steps.specs.declared.step.Past.{Past}
+use Rattle.spots.specs.declared.Past.{Past}
 use Rattle.steps.specs.declared.step.Num.{Num}
-use Rattle.steps.specs.Quick.{hexesFrom}
-use Rattle.steps.proofs.Quickly.{quick-is, quick-from, quick-number}
-use Rattle.bodies.specs.declared.blocks.Rest.{Rest}
-use Rattle.bodies.specs.declared.blocks.Block.{Block}
+use Rattle.quick.specs.Quick.{hexesFrom}
+use Rattle.quick.proofs.Ending.{quick-is, quick-from}
+use Rattle.steps.proofs.Quickly.{quick-number}
+use Rattle.bodies.specs.declared.hexes.Rest.{Rest}
+use Rattle.blocks.specs.declared.block.Block.{Block}
 use Rattle.bodies.specs.declared.rows.Word.{Word}
 use Rattle.bodies.specs.Bodies.{forget, wordUnit, LooseAt}
-use Rattle.bodies.specs.Blocks.{isHex, Plain, one, ends, tail, Fair, Read, BlockIs, goesFor, Gone}
+use Rattle.blocks.specs.Blocks.{isHex, Plain, one, ends, tail, Fair, Read, BlockIs, blockOf}
+use Rattle.bodies.specs.Hexes.{goesFor, Gone}
 use Rattle.bodies.proofs.Forgotten.{Going, going-start, going-more, loose-num}
-use Rattle.bodies.proofs.Counted.{Chosen, chosen, ends-few}
+use Rattle.blocks.proofs.Blocked.{Chosen, ends-few, block-is}
+use Rattle.blocks.proofs.Counted.{chosen}
 use Rattle.bodies.proofs.Loose.{later, loose-is, hex-is}
 
 -- ---- one word more
@@ -218,11 +221,11 @@ pub record Next (s : List ℕ) (at n c left k t′ : ℕ) : Type 0 where
   pub within : c + 8 ≤ length s
   pub more : Partial s at n (c + 8) t′ (left - k)
 
-pub block-next : (s : List ℕ) (at n x c t left : ℕ) (r : Block) → Partial s at n c t left → BlockIs x t r → Laned (take 8 (drop c s)) x → goesFor left c (length s) ≡ true
+pub block-next : (s : List ℕ) (at n x c t left : ℕ) (r : Block) → Partial s at n c t left → r ≡ blockOf x t → Laned (take 8 (drop c s)) x → goesFor left c (length s) ≡ true
     → (k t′ : ℕ) → r ≡ Block.Is k t′ → Next s at n c left k t′
 block-next s at n x c t left r p b l g k t′ e =
     let o = goes-true left c (length s) g in
-    let m = block-more s at n x c t left k t′ p (subst (BlockIs x t) e b) l (o .0) (o .1) in
+    let m = block-more s at n x c t left k t′ p (subst (BlockIs x t) (sym b ∙ e) (block-is x t)) l (o .0) (o .1) in
     record { few = omega (arith, m .0, o .0); within = o .1; more = m .1 }
 
 -- what is read behind the blocks is read behind the place where they began

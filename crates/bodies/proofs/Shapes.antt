@@ -9,11 +9,11 @@ use Rattle.layout.specs.declared.Refusal.{Refusal}
 use Rattle.layout.specs.Items.{Kind, node, cell, face, Perhaps, absent, given, points, elements, facets}
 use Rattle.layout.specs.Reading.{Got, got, bad, Reader, rowsOf, pairWord, enclosedOf}
 use Rattle.layout.specs.Sections.{elementOf, facingOf, mixedOf, bodyOf}
-use Rattle.steps.specs.declared.step.Past.{Past}
-use Rattle.heads.specs.declared.head.Fifth.{Fifth}
+use Rattle.spots.specs.declared.Past.{Past}
+use Rattle.spots.specs.declared.Fifth.{Fifth}
 use Rattle.bodies.specs.declared.rows.Row.{Row}
 use Rattle.bodies.specs.declared.bodies.Shape.{Shape}
-use Rattle.heads.specs.Heads.{fifthFor}
+use Rattle.spots.specs.Heads.{fifthFor}
 use Rattle.bodies.specs.Bodies.{forget, rowUnit, cellShape, faceShape, shapeOf, LooseAt}
 use Rattle.bodies.proofs.Loose.{kept, enclosed-forget, loose-is}
 

@@ -8,12 +8,12 @@ use Rattle.layout.specs.declared.Refusal.{Refusal}
 use Rattle.layout.specs.Items.{Kind, node, cell, face, Perhaps, absent, given}
 use Rattle.layout.specs.Reading.{Got, got, bad, Reader, Read, next, _>>=_, _>>_, pure, check, rightOf, hexWord, pairWord, rowsOf}
 use Rattle.layout.specs.Sections.{hexOf, elementOf, facingOf, mixedOf}
-use Rattle.steps.specs.declared.step.Past.{Past}
+use Rattle.spots.specs.declared.Past.{Past}
 use Rattle.steps.specs.declared.step.Num.{Num}
 use Rattle.bodies.specs.declared.bodies.Shape.{Shape}
 use Rattle.bodies.specs.declared.rows.Word.{Word}
 use Rattle.bodies.specs.declared.rows.Row.{Row}
-use Rattle.steps.specs.Views.{pastView}
+use Rattle.spots.specs.Pasts.{pastView}
 
 abbrev pub forget : {A : Type 0} → Got A → Got Unit
 forget (got a us) = got tt us

@@ -1,6 +1,6 @@
 // Bodies judged and not kept.
-mod blocks;
 mod bodies;
+mod hexes;
 mod rows;
 
 pub use bodies::body_at;

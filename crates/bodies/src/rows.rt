@@ -8,20 +8,20 @@ ghost use Rattle.layout.specs.Reading.{rowsOf};
 ghost use Rattle.layout.specs.Sections.{elementOf, facingOf, mixedOf};
 ghost use Rattle.steps.specs.Views.{NumAt};
 ghost use Rattle.bodies.specs.Bodies.{LooseAt, forget, pastOf, wordUnit, listedOf, rowUnit};
-use super::blocks::blocks_past;
+use super::hexes::blocks_past;
 use layout::Refusal;
 use numbers::Sort;
-use steps::Bad;
+use pairs::Went;
+use pairs::quick_pair;
+use quick::Quick;
+use quick::digit_hex;
+use quick::quick_hex;
+use spots::Bad;
+use spots::Past;
 use steps::Num;
 use steps::Pair;
-use steps::Past;
-use steps::Quick;
-use steps::Went;
-use steps::digit_hex;
 use steps::number_at;
 use steps::pair_at;
-use steps::quick_hex;
-use steps::quick_pair;
 
 pub enum Word {
     Hex,

@@ -6,7 +6,8 @@ use lib.Seq.{sets}
 use Rattle.mesh.specs.Rows.{places}
 use Rattle.faults.specs.Sides.{Tables}
 use Rattle.audit.specs.Audit.{Out, auditOf}
-use Rattle.boundary.specs.Flat.{auditWords, Kept, keptBy, auditKept}
+use Rattle.answers.specs.Words.{auditWords}
+use Rattle.boundary.specs.Flat.{Kept, keptBy, auditKept}
 
 pub kept-of : (t : Tables) (counts list answer : List ℕ) (o : Out) → o ≡ auditOf places t counts list
     → (m : ℕ) (ans : List ℕ) → (m ≡ o .answer .number) × (ans ≡ sets answer 0 (auditWords (o .answer)))

@@ -4,7 +4,7 @@ use mathlib.Core.List.{List}
 use Prim.Native.Nat.{ℕ}
 use denote.Ref.{now}
 use Rattle.facts.specs.OnlyLeft.{OnlyLeft}
-use Rattle.reader.specs.Found.{Tables}
+use Rattle.filling.specs.Found.{Tables}
 use Rattle.boundary.specs.Flat.{Left, Kept}
 use Rattle.boundary.proofs.calls.ravneket_read.Reads as read
 use Rattle.boundary.proofs.calls.ravneket_audit.Reads as audit

@@ -12,14 +12,15 @@ use Rattle.layout.specs.State.{State}
 use Rattle.layout.specs.Replies.{shown}
 use Rattle.layout.specs.Read.{Answer, Result, accepted, refused, answerOf, readOf}
 use Rattle.layout.proofs.Exactly.{zones-length}
-use Rattle.reader.specs.Found.{Tables, Core, told, flatOf, blank, roomWith, coreBy, coreOf}
+use Rattle.filling.specs.Found.{Tables, Core, told, flatOf, blank, roomWith, coreBy, coreOf}
 use Rattle.reader.specs.Zones.{filled}
-use Rattle.reader.proofs.Cored.{zones-are}
-use Rattle.reader.proofs.Few.{told-only, core-few, core-room}
+use Rattle.filling.proofs.Cored.{zones-are}
+use Rattle.filling.proofs.Few.{told-only, core-few, core-room}
 use Rattle.reader.proofs.Zoned.{flat-length, filled-zones}
 use Rattle.reader.proofs.Through.{withZones}
 use Rattle.reader.proofs.Called.{flat-is-read}
-use Rattle.boundary.specs.Flat.{readWords, Left, withList, leftBy, readLeft}
+use Rattle.answers.specs.Words.{readWords}
+use Rattle.boundary.specs.Flat.{Left, withList, leftBy, readLeft}
 
 -- what was laid at the start is the start
 taken-back : {A : Type 0} (xs old : List A) → length xs ≤ length old → take (length xs) (sets old 0 xs) ≡ xs

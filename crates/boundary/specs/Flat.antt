@@ -1,21 +1,18 @@
 -- The calls for other languages: the same answers, with every number a word of a slice. To be believed: all of this file. Assumes nothing.
 use Prim.Native.Nat.{ℕ, _/_}
-use mathlib.Core.List.{List, [], _∷_}
+use mathlib.Core.List.{List}
 use lib.ListN.{length, take, replicate}
 use lib.Seq.{sets}
 use Rattle.mesh.specs.Rows.{places}
-use Rattle.layout.specs.Replies.{Shown, shown}
+use Rattle.layout.specs.Replies.{shown}
 use Rattle.layout.specs.Rows.{Lent, noZone}
 use Rattle.layout.specs.Read.{Result, readOf}
-use Rattle.reader.specs.Found.{Tables, flatOf}
+use Rattle.filling.specs.Found.{Tables, flatOf}
 use Rattle.faults.specs.Sides as Audit
-use Rattle.audit.specs.Audit.{Values, Out, auditOf}
+use Rattle.audit.specs.Audit.{Out, auditOf}
+use Rattle.answers.specs.Words.{readWords, auditWords}
 
 -- ---- reading
--- "section, offset, the dimension, the three totals and the zone count", the number being the answer itself
-abbrev pub readWords : Shown → List ℕ
-readWords a = a .section ∷ a .offset ∷ a .dimension ∷ a .nodes ∷ a .faces ∷ a .cells ∷ a .zones ∷ []
-
 -- the number that is answered, and all that is lent as the call leaves it
 pub record Left : Type 0 where
   pub number : ℕ
@@ -45,10 +42,6 @@ unfoldable pub readLeft : List ℕ → Tables → List ℕ → List ℕ → Left
 readLeft s t words answer = leftBy (readOf s (withList t words)) words answer
 
 -- ---- auditing
--- "total, bytes written"
-abbrev pub auditWords : Values → List ℕ
-auditWords v = v .total ∷ v .bytes ∷ []
-
 pub record Kept : Type 0 where
   pub number : ℕ
   pub answer : List ℕ

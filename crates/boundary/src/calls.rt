@@ -2,12 +2,12 @@
 ghost use mathlib.Core.Path.{_≡_};
 ghost use Rattle.mesh.specs.Rows.{places};
 ghost use Rattle.audit.specs.Audit.{tables};
-ghost use Rattle.report.specs.Writing.{Wrote};
+ghost use Rattle.lines.specs.Writing.{Wrote};
 ghost use Rattle.report.specs.Report.{reportOf};
 ghost use Rattle.boundary.specs.Flat.{Left, readLeft, Kept, auditKept};
-use super::answers::answer_audit;
-use super::answers::answer_read;
-use super::answers::copy_words;
+use answers::answer_audit;
+use answers::answer_read;
+use answers::copy_words;
 
 // Words in a zone record.
 const ZONE_WORDS: usize = 6;

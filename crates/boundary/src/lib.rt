@@ -1,5 +1,4 @@
 // The reader, the audit and the report for programs in other languages: numbers and slices only.
-mod answers;
 mod calls;
 
 pub use calls::ravneket_audit;

@@ -16,8 +16,8 @@ use Rattle.survey.proofs.locate.Reads as locates
 use Rattle.survey.proofs.survey as survey
 use Rattle.survey.proofs.survey.Reads as surveys
 use Rattle.reader.proofs.read as read
-use Rattle.reader.proofs.read_flat as flat
-use Rattle.reader.proofs.read_flat.Reads as flats
+use Rattle.filling.proofs.read_flat as flat
+use Rattle.filling.proofs.read_flat.Reads as flats
 
 pub read-asks-nothing : {M : Type 1} (𝓤 : URA M) (H : Heap 𝓤) (A : Atoms 𝓤) (mem : Memory → SProp 𝓤) (run : Routine → Fun 𝓤) (κ : Lfts 6) (a : Args read.signature κ)
     → read.clauses 𝓤 H A mem run κ a .requires tt ≡ emp 𝓤

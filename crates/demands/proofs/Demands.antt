@@ -5,8 +5,8 @@ use denote.Triple.Entry.{Args, Res}
 use denote.Triple.Clauses.{AtExit}
 use Rattle.mesh.specs.Rows.{places}
 use Rattle.layout.specs.Read.{Outcome}
-use Rattle.audit.specs.All.{allFaults}
-use Rattle.audit.proofs.Faults.{all-sound, all-complete, all-rising, all-once}
+use Rattle.faults.specs.All.{allFaults}
+use Rattle.faults.proofs.All.{all-sound, all-complete, all-rising, all-once}
 use Rattle.audit.proofs.Held.{all-back}
 use Rattle.audit.proofs.Only.{audit-only}
 use Rattle.audit.proofs.audit as audit

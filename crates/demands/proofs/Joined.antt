@@ -10,7 +10,7 @@ use Rattle.layout.specs.Items.{Kind, node, cell, face, Item, dim, decl, part, o
 use Rattle.layout.specs.Keeps.{Room, roomFor, Within, Some, Declares, Fits, Laid}
 use Rattle.layout.specs.Rows.{Lent, roomOf}
 use Rattle.layout.specs.Says.{Mesh, Says, CellsAre}
-use Rattle.reader.proofs.Cored.{some-listed}
+use Rattle.filling.proofs.Cored.{some-listed}
 use Rattle.audit.specs.Audit.{tables}
 use Rattle.demands.specs.Demands.{Limits}
 

@@ -17,12 +17,12 @@ use Rattle.layout.specs.Replies.{Points}
 use Rattle.layout.specs.Read.{Result, readOf}
 use Rattle.layout.proofs.Refusals.{refusal-points}
 use Rattle.layout.proofs.Shown.{shown-only}
-use Rattle.reader.specs.Found.{Tables, Core, Told, told, coreOf}
+use Rattle.filling.specs.Found.{Tables, Core, Told, told, coreOf}
 use Rattle.reader.proofs.Through.{tablesIn, withZones}
-use Rattle.reader.proofs.Only.{read-flat-only}
+use Rattle.filling.proofs.Only.{read-flat-only}
 use Rattle.reader.proofs.Called.{flat-is-read}
-use Rattle.reader.proofs.read_flat as flat
-use Rattle.reader.proofs.read_flat.Reads as flats
+use Rattle.filling.proofs.read_flat as flat
+use Rattle.filling.proofs.read_flat.Reads as flats
 use Rattle.survey.proofs.Only.{survey-only, locate-only}
 use Rattle.survey.proofs.locate.Reads as locates
 use Rattle.survey.proofs.survey.Reads as surveys

@@ -59,7 +59,7 @@ pub record FileAnswered (κ : Lfts 6) (a : Args read.signature κ) (r : Res read
   pub told : shown r ≡ shown (readOf (now (a .0)) (takes κ a) .reply)
   -- a number from 1 to 14, a section that the file has begun, a byte of the file or its end
   pub points : (w : File.Refusal) (k o : ℕ) → r ≡ Reply.Refused w k o → Points (now (a .0)) w k o
-  -- Not: a refusal that writes (reader/refusal_that_writes, layout/refusal_empties_a_table)
+  -- Not: a refusal that writes (filling/refusal_that_writes, layout/refusal_empties_a_table)
   pub untouched : (w : File.Refusal) (k o : ℕ) → r ≡ Reply.Refused w k o → leaves κ x ≡ takes κ a
 
 pub record TableAnswered (κ : Lfts 4) (a : Args audit.signature κ) (r : Res audit.signature κ) (x : AtExit audit.ended κ) : Type 0 where
@@ -76,7 +76,7 @@ pub record Fits (s : List ℕ) (lent : Lent) : Type 0 where
 pub record FileRead (κ : Lfts 6) (a : Args read.signature κ) (r : Res read.signature κ) (x : AtExit read.ended κ) : Type 0 where
   -- 0 is Accepted. Not: refusing all files (survey/all_files_refused), one fixed answer (survey/one_fixed_answer)
   pub accepted : (shown r .number ≡ 0) ↔ Fits (now (a .0)) (takes κ a)
-  -- Not: accepting without filling rows (reader/accepting_without_filling, reader/nodes_never_written), other numbers than the text's (reader/cell_number_clamped)
+  -- Not: accepting without filling rows (filling/accepting_without_filling, filling/nodes_never_written), other numbers than the text's (filling/cell_number_clamped)
   pub holds : (m : Mesh) → (record { reply = r; held = leaves κ x } ≡ acceptedAs m) ↔ Says (now (a .0)) (takes κ a) m
   -- what is held is the one mesh that the text says
   pub one : (m n : Mesh) → record { reply = r; held = leaves κ x } ≡ acceptedAs m → Says (now (a .0)) (takes κ a) n → m ≡ n
@@ -91,7 +91,7 @@ pub record Limits (t : Tables) (counts : List ℕ) : Type 0 where
 -- "the audit lists every fault of the nine kinds, each once, in the stated order, nothing else."
 pub record Lists (t : Tables) (counts list : List ℕ) (o : Out) : Type 0 where
   pub faults : List Fault
-  -- Not: the first face alone (audit/first_face_only, audit/first_face_listed_alone), a kind left out (faults/kind_7_never_listed)
+  -- Not: the first face alone (audit/first_face_only, faults/first_face_listed_alone), a kind left out (faults/kind_7_never_listed)
   pub every : (f : Fault) → List·Memᴰ f faults ↔ Wrong places t f
   pub once : (z : Fault) (i j : ℕ) → i < j → j < length faults → getD faults i z ≡ getD faults j z → ⊥
   pub order : (z : Fault) (i j : ℕ) → i < j → j < length faults → Before (getD faults i z) (getD faults j z)
@@ -101,7 +101,7 @@ pub record Lists (t : Tables) (counts list : List ℕ) (o : Out) : Type 0 where
   pub readable : (f : Fault) → List·Memᴰ f faults → (rest : List ℕ) → readBack narrow (recordOf narrow f ++ rest) ≡ f
   -- "The total is the number of such faults even where the list has room for fewer". Not: a total made up (audit/total_made_up), or what was written (audit/total_equal_to_what_was_written)
   pub total : o .answer .total ≡ length faults
-  -- "A cell's count is the number of face sides that name it." Not: a cell above the last clamped (audit/cell_above_the_last_clamped)
+  -- "A cell's count is the number of face sides that name it." Not: a cell above the last clamped (faults/cell_above_the_last_clamped)
   pub count : (c : ℕ) → 1 ≤ c → c ≤ t .cells → getD (o .counts) (c - 1) 0 ≡ countOf places t c
   pub later : drop (t .cells) (o .counts) ≡ drop (t .cells) counts
 

@@ -34,11 +34,6 @@ decimal-byte b =
     Goal : ℕ → Type 0
     Goal d = d < 10 → (48 ≤ b) × (b ≤ 57)
 
--- and each of these is one
-pub byte-decimal : (b : ℕ) → within 48 57 b ≡ true → digitOf b < 10
-unfolding digitOf
-byte-decimal b h = rw (h, digitOf) (omega (arith, within-is 48 57 b h))
-
 -- the first byte, where there is one
 abbrev pub Begins : (ℕ → Type 0) → List ℕ → Type 0
 Begins P [] = Unit

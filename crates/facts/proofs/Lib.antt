@@ -3,3 +3,4 @@ pub mod Decides
 pub mod Signed
 pub mod Bytes
 pub mod Tail
+pub mod Sets

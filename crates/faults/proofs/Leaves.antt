@@ -1,70 +1,15 @@
--- The tests' ways through the code, each over plain numbers. Assumes nothing.
+-- The ways of a cell's tests through the code, each over plain numbers. Assumes nothing.
 use Prim.Native.Nat.{ℕ, _≤_, _<_}
 use native.Mathlib.Omega.{arith}
-use mathlib.Core.Path.{_≡_, sym, _∙_}
+use mathlib.Core.Path.{_≡_, sym}
 use mathlib.Core.List.{[], _∷_}
-use mathlib.Core.Bool.{Bool, true, false, not, _&&_, _||_, or-false}
-use borrow.Author.Tests.{lt-ltb, le-ltb, ltb-true, ltb-false, le-leb, lt-leb, eq-eqb, ne-eqb, eqb-true, eqb-false, leb-true, leb-false}
-use lib.Dec.{eqb, ltb, leb}
+use mathlib.Core.Bool.{true, false, not, or-false}
+use borrow.Author.Tests.{lt-ltb, ltb-true, ltb-false, le-leb, lt-leb, eq-eqb, ne-eqb, eqb-true, eqb-false}
+use lib.Dec.{eqb, ltb}
 use Rattle.facts.proofs.Branch.{split}
-use Rattle.mesh.specs.declared.Face.{Face}
 use Rattle.mesh.specs.declared.Cell.{Cell}
-use Rattle.faults.specs.Faults.{wrongCount, isIn, interior, isOpen, isLoose, wrongElement, sidesFor, wrongSides}
-
-pub eqb-swap : (a b : ℕ) → eqb a b ≡ eqb b a
-eqb-swap a b =
-    split (eqb b a)
-    (λ t. rw t (eq-eqb a b (sym (eqb-true b a t))))
-    (λ t. rw t (ne-eqb a b (λ e. eqb-false b a t (sym e))))
-
--- above is not at most
-above-not : (a b : ℕ) → ltb b a ≡ not (leb a b)
-above-not a b = split (leb a b) (λ t. rw (t, le-ltb b a (leb-true a b t))) (λ t. rw (t, lt-ltb b a (leb-false a b t)))
-
-module _ (n dim count : ℕ) where
-  pub count-flat : dim ≡ 2 → not (eqb count 2) ≡ wrongCount n dim count
-  unfolding wrongCount
-  count-flat e = rw (eq-eqb dim 2 e, wrongCount)
-
-  pub count-below : (dim ≡ 2 → ⊥) → count < 3 → ltb count 3 ≡ wrongCount n dim count
-  unfolding wrongCount
-  count-below e h = rw (ne-eqb dim 2 e, lt-ltb count 3 h, lt-leb 3 count h, wrongCount)
-
-  pub count-above : (dim ≡ 2 → ⊥) → 3 ≤ count → ltb n count ≡ wrongCount n dim count
-  unfolding wrongCount
-  count-above e h = above-not count n ∙ rw (ne-eqb dim 2 e, le-leb 3 count h, wrongCount)
-
-module _ (cells : ℕ) (face : Face) where
-  pub open-none : cells ≡ 0 → false ≡ isOpen cells face
-  open-none e = rw e
-
-  pub open-type : (cells ≡ 0 → ⊥) → isIn (face .ztype) interior ≡ false → false ≡ isOpen cells face
-  open-type e h = rw (lt-ltb 0 cells (omega arith), h)
-
-  pub open-sides : (cells ≡ 0 → ⊥) → isIn (face .ztype) interior ≡ true → (eqb (face .right) 0 || eqb (face .left) 0) ≡ isOpen cells face
-  open-sides e h = rw (lt-ltb 0 cells (omega arith), h)
-
-  pub loose-none : cells < 1 → false ≡ isLoose cells face
-  loose-none h = rw (le-ltb 0 cells (omega arith))
-
-  pub loose-sides : 1 ≤ cells → (eqb (face .right) 0 && eqb (face .left) 0) ≡ isLoose cells face
-  loose-sides h = rw (lt-ltb 0 cells h)
-
--- the two halves of a test in the code
-pub and-first : (a b : Bool) → a ≡ false → a ≡ (a && b)
-and-first a b h = rw h
-
-pub and-second : (a b : Bool) → a ≡ true → b ≡ (a && b)
-and-second a b h = rw h
-
-pub or-first : (a b : Bool) → a ≡ true → a ≡ (a || b)
-or-first a b h = rw h
-
-pub or-true-first : (a b : Bool) → a ≡ true → true ≡ (a || b)
-or-true-first a b h = rw h
-
-pub or-second : (a b : Bool) → a ≡ false → b ≡ (a || b)
-or-second a b h = rw h
+use Rattle.faults.specs.Faults.{isIn, wrongElement, sidesFor, wrongSides}
+use Rattle.faults.proofs.Halves.{eqb-swap}
 
 module _ (cell : Cell) (count : ℕ) where
   pub sides-dead : cell .ztype ≡ 0 → false ≡ wrongSides cell count

@@ -1,3 +1,4 @@
+pub mod Halves
 mod Leaves
 pub mod Over
 pub mod Sides
@@ -7,6 +8,6 @@ pub mod Members
 pub mod Exactly
 pub mod Any
 pub mod Only
-pub mod OfSides
-mod OfNodes
 pub mod Marked
+pub mod All
+pub mod Counting

@@ -4,3 +4,5 @@ pub mod Sides
 pub mod Wrong
 pub mod Order
 pub mod Marked
+pub mod All
+pub mod Counts

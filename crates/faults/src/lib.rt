@@ -1,13 +1,7 @@
-// The faults of one face and of one cell, found on values. Nothing is written here.
+// What a fault is, and the faults of one cell, found on values. Nothing is written here.
 mod cells;
-mod faces;
-mod marks;
-mod sound;
 
 pub use cells::has_cell_fault;
-pub use marks::marks_of;
-pub use sound::any_node_fault;
-pub use sound::any_side_fault;
 
 // Dimension and totals that faults are judged by.
 pub struct Frame {

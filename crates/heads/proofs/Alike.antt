@@ -2,13 +2,8 @@
 use mathlib.Core.Path.{sym, _∙_}
 use denote.Ref.{now}
 use Rattle.facts.specs.Alike.{Alike}
-use Rattle.steps.specs.Views.{pastView}
 use Rattle.heads.specs.Heads.{headView}
-use Rattle.heads.proofs.skip.skip_from.Reads as skip-from
 use Rattle.heads.proofs.head.head_at.Reads as head-at
-
-pub skip-from-alike : Alike (λ κ a r. pastView (now (a .0)) r) skip-from.Post
-skip-from-alike κ a r r′ x x′ p q = p .says ∙ sym (q .says)
 
 pub head-at-alike : Alike (λ κ a r. headView (now (a .0)) r) head-at.Post
 head-at-alike κ a r r′ x x′ p q = p .says ∙ sym (q .says)

@@ -17,16 +17,18 @@ use Rattle.layout.specs.Reading.{Got, got, bad, Reader, next, hexWord, rightOf}
 use Rattle.layout.specs.State.{isNode}
 use Rattle.layout.specs.Sections as S
 use Rattle.layout.specs.Sections.{isRight, fifthOf}
-use Rattle.steps.specs.declared.step.Bad.{Bad}
-use Rattle.steps.specs.declared.step.Past.{Past}
+use Rattle.spots.specs.declared.Bad.{Bad}
+use Rattle.spots.specs.declared.Past.{Past}
 use Rattle.steps.specs.declared.step.Close.{Close}
 use Rattle.steps.specs.declared.step.Num.{Num}
-use Rattle.heads.specs.declared.head.Fifth.{Fifth}
+use Rattle.spots.specs.declared.Fifth.{Fifth}
 use Rattle.heads.specs.declared.head.Words.{Words}
 use Rattle.heads.specs.declared.head.Header.{Header}
-use Rattle.steps.specs.Views.{PastAt, CloseAt, NumAt}
+use Rattle.steps.specs.Views.{CloseAt, NumAt}
+use Rattle.spots.specs.Pasts.{PastAt}
 use Rattle.steps.proofs.Chain.{past-no, past-to, past-ahead, close-no, close-to, close-ahead, num-no, num-to, num-ahead}
-use Rattle.heads.specs.Heads.{readFor, HeadAt, HeadAhead, closed, afterFifth, afterType}
+use Rattle.heads.specs.Heads.{HeadAt, HeadAhead, closed, afterFifth, afterType}
+use Rattle.spots.specs.Heads.{readFor}
 
 abbrev isThe : Token → Bool
 isThe Token.Left = false

@@ -12,29 +12,11 @@ use Rattle.layout.specs.Reading.{Got, got, bad, Reader, next, _>>=_, _>>_, pure
 use Rattle.layout.specs.State.{isNode}
 use Rattle.layout.specs.Sections as S
 use Rattle.layout.specs.Sections.{fifthOf}
-use Rattle.heads.specs.declared.head.Kind.{Kind}
-use Rattle.heads.specs.declared.head.Read.{Read}
-use Rattle.heads.specs.declared.head.Fifth.{Fifth}
+use Rattle.spots.specs.declared.Read.{Read}
+use Rattle.spots.specs.declared.Fifth.{Fifth}
 use Rattle.heads.specs.declared.head.Words.{Words}
-use Rattle.heads.specs.declared.head.Head.{Head}
 use Rattle.heads.specs.declared.head.Header.{Header}
-
-abbrev pub kindFor : Kind → Items.Kind
-kindFor Kind.Node = Items.node
-kindFor Kind.Cell = Items.cell
-kindFor Kind.Face = Items.face
-
--- ---- values
-abbrev pub readFor : Read → R.Read
-readFor r = record { value = r .value; at = r .at }
-
-abbrev pub fifthFor : Fifth → Items.Perhaps
-fifthFor (Fifth.Given v) = Items.given v
-fifthFor Fifth.Absent = Items.absent
-
-abbrev pub headFor : Head → S.Head
-headFor h =
-    record { zone = readFor (h .zone); first = readFor (h .first); last = readFor (h .last); type = readFor (h .ztype); fifth = fifthFor (h .fifth); fifth-at = h .place; end = h .end }
+use Rattle.spots.specs.Heads.{readFor, fifthFor, headFor}
 
 abbrev pub headView : List ℕ → Header → Got S.Head
 headView s (Header.Is h n) = got (headFor h) (tokensFrom s n)

@@ -6,46 +6,22 @@ ghost use Rattle.tokens.specs.Listed.{tokensFrom};
 ghost use Rattle.layout.specs.Sections.{isRight, headOf};
 ghost use Rattle.layout.specs.State.{isNode};
 ghost use lib.Dec.{eqb};
-ghost use Rattle.heads.specs.Heads.{kindFor, HeadAt, afterLeft, afterZone, afterFirst, afterLast, afterType, afterFifth};
+ghost use Rattle.heads.specs.Heads.{HeadAt, afterLeft, afterZone, afterFirst, afterLast, afterType, afterFifth};
+ghost use Rattle.spots.specs.Heads.{kindFor};
 use numbers::Sort;
-use steps::Bad;
+use spots::Bad;
+use spots::Fifth;
+use spots::Head;
+use spots::Kind;
+use spots::Past;
+use spots::Read;
 use steps::Close;
 use steps::Num;
-use steps::Past;
 use steps::left_at;
 use steps::number_at;
 use steps::right_at;
 use tokens::Cursor;
 use tokens::Token;
-
-// The sections that are read by the same rules.
-pub enum Kind {
-    Node,
-    Cell,
-    Face,
-}
-
-// A number and where its word starts.
-pub struct Read {
-    pub value: u32,
-    pub at: usize,
-}
-
-pub enum Fifth {
-    Given(u32),
-    Absent,
-}
-
-// The words of a header with their places, the place of the fifth (0 where it is absent) and of the `)`.
-pub struct Head {
-    pub zone: Read,
-    pub first: Read,
-    pub last: Read,
-    pub ztype: Read,
-    pub fifth: Fifth,
-    pub place: usize,
-    pub end: usize,
-}
 
 pub enum Header {
     Is { head: Head, next: usize },

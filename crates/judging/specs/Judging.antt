@@ -1,34 +1,17 @@
 -- The code's judgement of a section's words, in the order of the table of refusals. Assumes nothing.
-use Prim.Native.Nat.{ℕ, suc, _-_}
-use mathlib.Core.Bool.{Bool, true, false, _&&_, not}
-use lib.Dec.{leb}
+use Prim.Native.Nat.{ℕ}
+use mathlib.Core.Bool.{Bool, true, false, not}
 use Rattle.layout.specs.declared.Refusal.{Refusal}
 use Rattle.layout.specs.State.{dimAfter, dimListed, typeListed, fifthListed, fitsIn, declRange, partRange, zoneFits}
-use Rattle.heads.specs.declared.head.Kind.{Kind}
-use Rattle.listing.specs.declared.listed.Limit.{Limit}
-use Rattle.steps.specs.declared.step.Bad.{Bad}
-use Rattle.heads.specs.declared.head.Head.{Head}
-use Rattle.judging.specs.declared.judge.Seen.{Seen}
-use Rattle.judging.specs.declared.judge.State.{State}
-use Rattle.judging.specs.declared.judge.Room.{Room}
+use Rattle.spots.specs.declared.Kind.{Kind}
+use Rattle.ranges.specs.declared.Limit.{Limit}
+use Rattle.spots.specs.declared.Bad.{Bad}
+use Rattle.spots.specs.declared.Head.{Head}
+use Rattle.sofar.specs.declared.Seen.{Seen}
 use Rattle.judging.specs.declared.judge.Judged.{Judged}
-use Rattle.heads.specs.Heads.{kindFor, fifthFor}
-use Rattle.listing.specs.Listing.{limitFor, dimWordFor, agrees, known}
-
-abbrev pub seenOf : State → Kind → Seen
-seenOf x Kind.Node = x .nodes
-seenOf x Kind.Cell = x .cells
-seenOf x Kind.Face = x .faces
-
-abbrev pub roomOf : Room → Kind → Limit
-roomOf r Kind.Node = r .nodes
-roomOf r Kind.Cell = r .cells
-roomOf r Kind.Face = r .faces
-
-abbrev pub idFor : Kind → ℕ
-idFor Kind.Node = 10
-idFor Kind.Cell = 12
-idFor Kind.Face = 13
+use Rattle.spots.specs.Heads.{kindFor, fifthFor}
+use Rattle.ranges.specs.Ranges.{limitFor}
+use Rattle.dims.specs.Dims.{dimWordFor, agrees, known}
 
 -- ---- one test behind the other
 abbrev pub test : Bool → Refusal → ℕ → Judged → Judged
@@ -55,6 +38,3 @@ partJudged k seen dim zones limit h apart =
     test (seen .declared) Refusal.Undeclared (h .zone .at)
     (test (partRange (seen .total) (h .zone .value) (h .first .value) (h .last .value)) Refusal.Range (h .first .at)
     (test apart Refusal.Overlap (h .first .at) (wordsJudged k dim zones limit h)))
-
-abbrev pub countFor : ℕ → ℕ → ℕ
-countFor f l = elim (leb 1 f && leb f l) [ true ↦ suc l - f | false ↦ 0 ]

@@ -1,79 +1,27 @@
 // A header judged by what came before it, in the order of the refusals' numbers: each function is built from the last test to the first.
 ghost use mathlib.Core.Path.{_≡_};
-ghost use Rattle.judging.specs.Judging.{test, seenOf, idFor, roomOf, declJudged, wordsJudged, partJudged, countFor};
-use heads::Head;
-use heads::Kind;
+ghost use Rattle.judging.specs.Judging.{test, declJudged, wordsJudged, partJudged};
+use dims::dim_after;
+use dims::dim_agrees;
+use dims::dim_known;
+use dims::dim_listed;
+use dims::dim_word;
 use layout::Refusal;
-use listing::Limit;
-use listing::decl_range;
-use listing::dim_after;
-use listing::dim_agrees;
-use listing::dim_known;
-use listing::dim_listed;
-use listing::dim_word;
 use listing::fifth_listed;
-use listing::fits_in;
-use listing::part_range;
 use listing::type_listed;
-use listing::zone_fits;
-use steps::Bad;
-
-// Of one kind: whether it was declared, and its total.
-pub struct Seen {
-    pub declared: bool,
-    pub total: u32,
-}
-
-// What the sections so far leave behind, their ranges aside. The dimension is 0 where none is known.
-pub struct State {
-    pub dim: u32,
-    pub nodes: Seen,
-    pub cells: Seen,
-    pub faces: Seen,
-    pub zones: u32,
-}
-
-// Whole rows of each kind, and zone records.
-pub struct Room {
-    pub nodes: Limit,
-    pub cells: Limit,
-    pub faces: Limit,
-    pub zones: Limit,
-}
+use ranges::Limit;
+use ranges::decl_range;
+use ranges::fits_in;
+use ranges::part_range;
+use ranges::zone_fits;
+use sofar::Seen;
+use spots::Bad;
+use spots::Head;
+use spots::Kind;
 
 pub enum Judged {
     Fine,
     No(Bad),
-}
-
-pub fn seen_of(x: State, kind: Kind) -> Seen
-    ensures { λ r. ⌜ r ≡ seenOf x kind ⌝ }
-{
-    match kind {
-        Kind::Node => x.nodes,
-        Kind::Cell => x.cells,
-        Kind::Face => x.faces,
-    }
-}
-
-pub fn room_of(room: Room, kind: Kind) -> Limit
-    ensures { λ r. ⌜ r ≡ roomOf room kind ⌝ }
-{
-    match kind {
-        Kind::Node => room.nodes,
-        Kind::Cell => room.cells,
-        Kind::Face => room.faces,
-    }
-}
-
-pub fn id_of(kind: Kind) -> u32
-    ensures { λ r. ⌜ r ≡ idFor kind ⌝ }
-{
-    match kind {
-        Kind::Node => 10,
-        Kind::Cell => 12,
-        Kind::Face => 13,
-    }
 }
 
 pub fn unless(ok: bool, why: Refusal, offset: usize, rest: Judged) -> Judged
@@ -149,17 +97,4 @@ pub fn part_judged(
     let ranged = part_range(seen.total, zone.value, first.value, last);
     let range = unless(ranged, Refusal::Range, first.at, overlap);
     unless(seen.declared, Refusal::Undeclared, zone.at, range)
-}
-
-pub fn count_of(first: u32, last: u32) -> u32
-    ensures { λ r. ⌜ r ≡ countFor first last ⌝ }
-{
-    if first < 1 {
-        return 0;
-    }
-    if last < first {
-        return 0;
-    }
-    let more = last - first;
-    more + 1
 }

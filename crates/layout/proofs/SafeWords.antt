@@ -12,10 +12,10 @@ use Rattle.sizes.specs.Sizes.{depth}
 use Rattle.tokens.specs.Listed.{Tok, left, right, text, cut, word}
 use Rattle.tokens.specs.Text.{Text, nothing, blank, opened, shut, string, unclosed, a-word}
 use Rattle.numbers.specs.declared.whole.Whole.{Whole}
-use Rattle.numbers.specs.declared.decimal.Decimal.{Decimal}
+use Rattle.decimals.specs.declared.decimal.Decimal.{Decimal}
 use Rattle.numbers.specs.declared.sort.Sort.{Sort}
 use Rattle.numbers.specs.Whole.{hexadecimalOf}
-use Rattle.numbers.specs.Coordinate.{coordinateOf}
+use Rattle.decimals.specs.Coordinate.{coordinateOf}
 use Rattle.numbers.specs.Bad.{badAt}
 use Rattle.numbers.proofs.Bad.{badAt-within}
 use Rattle.layout.specs.declared.Refusal.{Refusal}

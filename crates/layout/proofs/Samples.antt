@@ -9,7 +9,7 @@ use Rattle.tokens.specs.Tokens.{classOf, runEnd, runAt, textTo, tokenOf, tokenF
 use Rattle.tokens.specs.Listed.{tokensIn, tokensFrom}
 use Rattle.digits.specs.Digits.{digitOf, digitsIn}
 use Rattle.numbers.specs.Whole.{wholeOf}
-use Rattle.numbers.specs.Coordinate.{signIn, fractionIn, markedOf, powerOf, readingOf, cut, inRange, fitted, keep, coordinateOf}
+use Rattle.decimals.specs.Coordinate.{signIn, fractionIn, markedOf, powerOf, readingOf, cut, inRange, fitted, keep, coordinateOf}
 use Rattle.mesh.specs.declared.Zone.{Zone}
 use Rattle.layout.specs.Rows.{Lent}
 use Rattle.layout.specs.Says.{Mesh, Says}

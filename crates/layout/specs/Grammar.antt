@@ -10,7 +10,7 @@ use Rattle.sizes.specs.Sizes.{depth}
 use Rattle.tokens.specs.Listed.{Tok, left, right, text, word}
 use Rattle.numbers.specs.declared.whole.Whole.{Whole}
 use Rattle.numbers.specs.Whole.{hexadecimalOf, sectionIdOf}
-use Rattle.numbers.specs.Value.{Means}
+use Rattle.decimals.specs.Value.{Means}
 use Rattle.layout.specs.Items.{Kind, node, cell, face, idOf, Perhaps, absent, given, Header, countOf, Pair, Facet, Body, points, elements, facets, Item, dim, decl, part, other}
 
 pub data Left : List Tok → List Tok → Type 0 where

@@ -7,10 +7,10 @@ use lib.IntN.{ℤ}
 use Rattle.sizes.specs.Sizes.{depth}
 use Rattle.tokens.specs.Listed.{Tok, left, right, text, cut, word}
 use Rattle.numbers.specs.declared.whole.Whole.{Whole}
-use Rattle.numbers.specs.declared.decimal.Decimal.{Decimal}
+use Rattle.decimals.specs.declared.decimal.Decimal.{Decimal}
 use Rattle.numbers.specs.declared.sort.Sort.{Sort}
 use Rattle.numbers.specs.Whole.{hexadecimalOf, sectionIdOf}
-use Rattle.numbers.specs.Coordinate.{coordinateOf}
+use Rattle.decimals.specs.Coordinate.{coordinateOf}
 use Rattle.numbers.specs.Bad.{badAt}
 use Rattle.layout.specs.declared.Refusal.{Refusal}
 use Rattle.layout.specs.Items.{Pair}

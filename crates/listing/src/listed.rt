@@ -1,10 +1,10 @@
-// The words that a section may have: types, elements, dimensions, ranges, room.
+// The types and elements that a section may have.
 ghost use mathlib.Core.Path.{_≡_};
-ghost use Rattle.layout.specs.State.{among, dimAfter, dimListed, typeListed, fifthListed, fitsIn, declRange, partRange, zoneFits};
-ghost use Rattle.heads.specs.Heads.{kindFor, fifthFor};
-ghost use Rattle.listing.specs.Listing.{limitFor, dimWordFor, agrees, known};
-use heads::Fifth;
-use heads::Kind;
+ghost use Rattle.layout.specs.State.{among, typeListed, fifthListed};
+ghost use Rattle.spots.specs.Heads.{kindFor, fifthFor};
+use dims::dim_listed;
+use spots::Fifth;
+use spots::Kind;
 
 const NODE_TYPES: [u32; 3] = [0, 1, 2];
 
@@ -47,12 +47,6 @@ const ELEMENTS: [u32; 7] = [0, 1, 2, 3, 4, 5, 6];
 
 const FACINGS: [u32; 4] = [0, 2, 3, 4];
 
-// So many whole rows or records, or as many as there are.
-pub enum Limit {
-    Unlimited,
-    Most(usize),
-}
-
 fn is_in(list: &[u32], t: u32) -> bool
     ensures { λ r. ⌜ r ≡ among (now (list .entry)) t ⌝ }
 {
@@ -73,15 +67,6 @@ pub fn type_listed(kind: Kind, t: u32) -> bool
         Kind::Node => is_in(&NODE_TYPES, t),
         Kind::Cell => is_in(&CELL_TYPES, t),
         Kind::Face => is_in(&FACE_TYPES, t),
-    }
-}
-
-pub fn dim_listed(v: Fifth) -> bool
-    ensures { λ r. ⌜ r ≡ dimListed (fifthFor v) ⌝ }
-{
-    match v {
-        Fifth::Absent => true,
-        Fifth::Given(n) => n == 2 || n == 3,
     }
 }
 
@@ -110,77 +95,5 @@ pub fn fifth_listed(kind: Kind, v: Fifth) -> bool
         Kind::Node => dim_listed(v),
         Kind::Cell => element_listed(v),
         Kind::Face => facing_listed(v),
-    }
-}
-
-pub fn fits_in(limit: Limit, n: usize) -> bool
-    ensures { λ r. ⌜ r ≡ fitsIn (limitFor limit) n ⌝ }
-{
-    match limit {
-        Limit::Unlimited => true,
-        Limit::Most(m) => n <= m,
-    }
-}
-
-pub fn decl_range(first: u32, last: u32) -> bool
-    ensures { λ r. ⌜ r ≡ declRange first last ⌝ }
-{
-    first == 1 && last <= sizes::ROWS
-}
-
-pub fn part_range(total: u32, zone: u32, first: u32, last: u32) -> bool
-    ensures { λ r. ⌜ r ≡ partRange total zone first last ⌝ }
-{
-    zone <= sizes::ZONE_ID && (1 <= first && (first <= last && last <= total))
-}
-
-// The dimension that a header's fifth word gives.
-pub fn dim_word(kind: Kind, v: Fifth) -> Fifth
-    ensures { λ r. ⌜ r ≡ dimWordFor kind v ⌝ }
-{
-    match kind {
-        Kind::Node => v,
-        Kind::Cell => Fifth::Absent,
-        Kind::Face => Fifth::Absent,
-    }
-}
-
-pub fn dim_after(dim: u32, v: Fifth) -> u32
-    ensures { λ r. ⌜ r ≡ dimAfter dim (fifthFor v) ⌝ }
-{
-    match v {
-        Fifth::Absent => dim,
-        Fifth::Given(n) => n,
-    }
-}
-
-pub fn dim_agrees(dim: u32, v: Fifth) -> bool
-    ensures { λ r. ⌜ r ≡ agrees dim (fifthFor v) ⌝ }
-{
-    match v {
-        Fifth::Absent => true,
-        Fifth::Given(n) => dim == 0 || dim == n,
-    }
-}
-
-// A node section needs a dimension.
-pub fn dim_known(kind: Kind, dim: u32) -> bool
-    ensures { λ r. ⌜ r ≡ known kind dim ⌝ }
-{
-    match kind {
-        Kind::Node => dim != 0,
-        Kind::Cell => true,
-        Kind::Face => true,
-    }
-}
-
-pub fn zone_fits(limit: Limit, z: usize) -> bool
-    ensures { λ r. ⌜ r ≡ zoneFits (limitFor limit) z ⌝ }
-{
-    if z < sizes::ZONES {
-        let more = z + 1;
-        fits_in(limit, more)
-    } else {
-        false
     }
 }

@@ -14,7 +14,7 @@ use Rattle.digits.specs.Hexes.{hexesBy, hexesOf}
 use Rattle.digits.proofs.Digits.{within-is, Run, digitsIn-part, digitsIn-exact, Begins, NoDigit}
 use Rattle.numbers.specs.declared.whole.Whole.{Whole}
 use Rattle.numbers.specs.Whole.{hexadecimalOf}
-use Rattle.numbers.proofs.Pieces.{wholeOf-exact, wholeOf-exactly}
+use Rattle.numbers.proofs.Wholes.{wholeOf-exact, wholeOf-exactly}
 
 figure-at : (run rest : List ℕ) (i : ℕ) → Figures 16 run → i < length run → digitOf (getD (run ++ rest) i 0) < 16
 figure-at [] rest i f h = absurd (omega arith)

@@ -1,23 +1,18 @@
 -- Whole numbers over the base: what the one loop needs. Assumes nothing.
 use Prim.Native.Nat.{ℕ, _+_, _*_, _^_, _≤_, _<_}
-use native.Mathlib.Nat.{pow-zero, pow-suc, pow-le-pow-right}
+use native.Mathlib.Nat.{pow-suc, pow-le-pow-right}
 use native.Mathlib.Numerals.{add-one}
 use native.Mathlib.Omega.{arith}
 use mathlib.Core.Path.{_≡_, refl, sym, ap, _∙_}
 use mathlib.Core.List.{List, _∷_}
-use mathlib.Core.Bool.{_&&_}
 use lib.Arith.{digits-lt}
-use lib.Dec.{lit<}
 use lib.ListN.{length, drop, getD, drop-of-length-le}
 use lib.Seq.{drop-cons}
-use Rattle.facts.proofs.Branch.{either}
 use Rattle.numbers.specs.declared.whole.Whole.{Whole}
-use Rattle.digits.specs.Digits.{digitOf, Digits, digits, digitsIn, within}
-use Rattle.numbers.specs.Whole.{isEmpty, wholeBy, wholeOf}
-use Rattle.numbers.specs.Parts.{Below}
-use Rattle.digits.proofs.Digits.{and-right, within-is, digitsIn-below}
+use Rattle.digits.specs.Digits.{digitOf, digits, digitsIn}
+use Rattle.numbers.specs.Whole.{wholeBy, wholeOf}
 use Rattle.numbers.proofs.Places.{digitsIn-stop, digitsIn-past}
-use Rattle.numbers.proofs.Pieces.{wholeBy-is, wholeOf-exactly}
+use Rattle.numbers.proofs.Wholes.{wholeBy-is, wholeOf-exactly}
 
 not-whole : (r : Whole) → ((v : ℕ) → r ≡ Whole.Is v → ⊥) → Whole.Not ≡ r
 not-whole (Whole.Is v) h = absurd (h v refl)
@@ -52,15 +47,3 @@ module _ (base most v d i : ℕ) (p : 0 < base) (m : base ^ most ≤ 2 ^ 32) (b 
 
   pub fits : i < most → v * base + d < 2 ^ 32
   fits h = omega (arith, grows, pow-le-pow-right p {i = i + 1} {j = most} (omega arith))
-
--- a number of at most `most` digits is below base ^ most
-pub whole-below : (base most : ℕ) (w : List ℕ) → 0 < base → Below (base ^ most) (wholeOf base most w)
-unfolding wholeOf
-whole-below base most w g =
-    either (Below (base ^ most)) (isEmpty (d .rest) && within 1 most (d .count))
-    (λ p. let m = within-is 1 most (d .count) (and-right (isEmpty (d .rest)) (within 1 most (d .count)) p) .1 in
-    omega (arith, digitsIn-below base w 0 0 (rw pow-zero (lit< tt)), pow-le-pow-right g {i = d .count} {j = most} m))
-    (λ _. tt)
-  where
-    d : Digits
-    d = digitsIn base 0 0 w

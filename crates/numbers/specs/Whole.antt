@@ -23,3 +23,7 @@ sectionIdOf w = wholeOf 10 5 w
 -- "All other whole numbers are hexadecimal, 1 to 8 digits"
 abbrev pub hexadecimalOf : List ℕ → Whole
 hexadecimalOf w = wholeOf 16 8 w
+
+-- a coordinate's power, behind its sign: "1 to 3 digits"
+abbrev pub powerDigitsOf : List ℕ → Whole
+powerDigitsOf w = wholeOf 10 3 w

@@ -2,14 +2,14 @@
 ghost use mathlib.Core.Path.{_≡_};
 ghost use Rattle.digits.specs.Digits.{within, digitOf};
 
-pub(crate) fn is_within(low: u8, high: u8, b: u8) -> bool
+fn is_within(low: u8, high: u8, b: u8) -> bool
     ensures { λ r. ⌜ r ≡ within low high b ⌝ }
 {
     low <= b && b <= high
 }
 
 // The digit's value, and 16 for a byte that is none.
-pub(crate) fn digit_of(b: u8) -> u32
+pub fn digit_of(b: u8) -> u32
     ensures { λ r. ⌜ r ≡ digitOf b ⌝ }
 {
     if is_within(48, 57, b) {

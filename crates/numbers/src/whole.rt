@@ -1,7 +1,7 @@
 // Whole numbers: one loop for every base.
 ghost use mathlib.Core.Path.{_≡_};
 ghost use Prim.Native.Nat.{_<_, _≤_, _^_};
-ghost use Rattle.numbers.specs.Whole.{wholeOf, hexadecimalOf, sectionIdOf};
+ghost use Rattle.numbers.specs.Whole.{wholeOf, hexadecimalOf, sectionIdOf, powerDigitsOf};
 use super::digit::digit_of;
 
 pub enum Whole {
@@ -10,7 +10,7 @@ pub enum Whole {
 }
 
 // A word of 1 to `most` digits to the base.
-pub(crate) fn whole_of(w: &[u8], base: u32, most: usize) -> Whole
+fn whole_of(w: &[u8], base: u32, most: usize) -> Whole
     requires { ⌜ (0 < base) × (base ^ most ≤ 2 ^ 32) ⌝ }
     ensures { λ r. ⌜ r ≡ wholeOf base most (now (w .entry)) ⌝ }
 {
@@ -44,4 +44,10 @@ pub fn section_id(w: &[u8]) -> Whole
     ensures { λ r. ⌜ r ≡ sectionIdOf (now (w .entry)) ⌝ }
 {
     whole_of(w, 10, 5)
+}
+
+pub fn power_digits(w: &[u8]) -> Whole
+    ensures { λ r. ⌜ r ≡ powerDigitsOf (now (w .entry)) ⌝ }
+{
+    whole_of(w, 10, 3)
 }

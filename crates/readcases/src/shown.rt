@@ -18,7 +18,7 @@ fn put_signed(m: i64) {
     if m < 0 {
         put(b"-");
     }
-    io::print_decimal(STDOUT_FILENO, numbers::magnitude(m));
+    io::print_decimal(STDOUT_FILENO, decimals::magnitude(m));
 }
 
 fn wide(w: u32) -> u64 {

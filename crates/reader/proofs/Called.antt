@@ -18,9 +18,9 @@ use Rattle.layout.specs.Read.{Result, readOf}
 use Rattle.layout.proofs.Exactly.{acceptedAs, readOf-exactly, one-mesh}
 use Rattle.layout.proofs.Refusals.{refusal-points}
 use Rattle.layout.proofs.Shown.{outcome-only}
-use Rattle.reader.specs.Found.{Tables, Core, coreOf}
+use Rattle.filling.specs.Found.{Tables, Core, coreOf}
 use Rattle.reader.proofs.Through.{withZones}
-use Rattle.reader.proofs.Few.{through-is}
+use Rattle.reader.proofs.Zoned.{through-is}
 use Rattle.reader.proofs.Only.{leaves, takes, Post}
 use Rattle.reader.proofs.lent.read as read
 

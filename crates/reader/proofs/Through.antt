@@ -5,7 +5,7 @@ use lib.ListN.{length}
 use Rattle.mesh.specs.declared.Zone.{Zone}
 use Rattle.layout.specs.Read.{Result}
 use Rattle.layout.specs.Rows.{Lent}
-use Rattle.reader.specs.Found.{Tables, Core, coreOf}
+use Rattle.filling.specs.Found.{Tables, Core, coreOf}
 use Rattle.reader.specs.Zones.{filled}
 
 abbrev pub tablesIn : Lent → Tables

@@ -1,4 +1,4 @@
--- The records of a flat table, laid at the start of a list, are the zone records that the table was made of. Assumes nothing.
+-- The records of a flat table, laid at the start of a list, are the zone records that the table was made of. So reading by way of the records as numbers is reading. Assumes nothing.
 use Prim.Native.Nat.{ℕ, zero, suc, _+_, _*_, _≤_, _<_}
 use native.Mathlib.Nat.{le-refl}
 use native.Mathlib.Omega.{arith}
@@ -9,12 +9,15 @@ use lib.Seq.{sets, sets-eq, take-suc, take-length, length-take-le}
 use Rattle.mesh.specs.declared.Zone.{Zone}
 use Rattle.layout.specs.declared.Refusal.{Refusal}
 use Rattle.layout.specs.Items.{Item}
-use Rattle.layout.specs.Rows.{noZone, zonesOf, Lent}
+use Rattle.layout.specs.Rows.{noZone, zonesOf, Lent, roomOf}
 use Rattle.layout.specs.State.{State}
-use Rattle.layout.specs.Read.{Result, accepted, refused, lay, resultOf}
-use Rattle.reader.specs.Found.{wordsOf, flatOf, blank, coreBy}
-use Rattle.reader.proofs.Puts.{sets-append}
-use Rattle.reader.proofs.Through.{tablesIn, withZones}
+use Rattle.layout.specs.Read.{Result, Answer, accepted, refused, answerOf, lay, resultOf, readOf}
+use Rattle.layout.proofs.Exactly.{zones-length}
+use Rattle.tables.specs.Places.{wordsOf}
+use Rattle.filling.specs.Found.{flatOf, blank, coreBy, coreOf}
+use Rattle.facts.proofs.Sets.{sets-append}
+use Rattle.filling.proofs.Cored.{zones-are, few-zones}
+use Rattle.reader.proofs.Through.{tablesIn, withZones, throughCore}
 use Rattle.reader.specs.Zones.{zoneAt, filled}
 
 pub flat-length : (zs : List Zone) → length (flatOf zs) ≡ length zs * 6
@@ -80,3 +83,14 @@ zoned-accepted x is l e h =
 pub zoned-refused : (w : Refusal) (k o : ℕ) (l : Lent) → withZones (coreBy (refused w k o) (tablesIn l)) (l .zones) ≡ resultOf (refused w k o) l
 unfolding filled
 zoned-refused w k o l = refl
+
+module _ (s : List ℕ) (l : Lent) where
+  through-by : (a : Answer) → answerOf (roomOf l) s ≡ a → withZones (coreBy a (tablesIn l)) (l .zones) ≡ resultOf a l
+  through-by (accepted x is) e =
+      zoned-accepted x is l (zones-are (roomOf l) s x is e ∙ sym (zones-length is)) (omega (arith, zones-length is, few-zones (roomOf l) s x is e))
+  through-by (refused w k o) e = zoned-refused w k o l
+
+  -- reading by way of the records as numbers is reading
+  pub through-is : throughCore s l ≡ readOf s l
+  unfolding coreOf readOf
+  through-is = through-by (answerOf (roomOf l) s) refl

@@ -1,4 +1,1 @@
-pub mod Filling
-pub mod Found
-pub mod Passing
 pub mod Zones

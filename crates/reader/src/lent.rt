@@ -2,8 +2,8 @@
 ghost use mathlib.Core.Path.{_≡_};
 ghost use Rattle.layout.specs.Read.{Outcome, outcome, readOf};
 ghost use Rattle.layout.specs.Replies.{shown};
-use super::core::read_flat;
 use super::zones::fill;
+use filling::read_flat;
 use layout::Reply;
 use mesh::Zone;
 

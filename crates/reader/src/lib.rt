@@ -1,14 +1,7 @@
-// Reading a file into lent tables: judged first, then written.
-mod core;
-mod fill;
+// Reading a file into lent tables and a lent list of zone records.
 mod lent;
-mod nodes;
-mod parts;
-mod rows;
-mod tops;
-mod words;
 mod zones;
 
-pub use core::Found;
-pub use core::read_flat;
+pub use filling::Found;
+pub use filling::read_flat;
 pub use lent::read;

@@ -23,15 +23,16 @@ use Rattle.layout.specs.Rows.{Lent, noZone}
 use Rattle.layout.specs.Read.{Result, readOf}
 use Rattle.audit.specs.declared.Refusal as Audit
 use Rattle.audit.specs.declared.Audited.{Audited}
-use Rattle.audit.specs.All.{allFaults}
+use Rattle.faults.specs.All.{allFaults}
 use Rattle.audit.specs.Audit.{tables, Out, out, valuesOf, isDimension, totalsFit, countsFit, auditOf}
-use Rattle.reader.specs.Found as Found
-use Rattle.reader.specs.Found.{Core, told, coreOf}
+use Rattle.filling.specs.Found as Found
+use Rattle.filling.specs.Found.{Core, told, coreOf}
 use Rattle.reader.proofs.Through.{withZones}
-use Rattle.reader.proofs.Few.{told-only}
+use Rattle.filling.proofs.Few.{told-only}
 use Rattle.reader.proofs.Called.{flat-is-read}
-use Rattle.report.specs.Writing.{Wrote, line}
-use Rattle.report.specs.Report.{lent, faultLines, audited, reported, reportOf}
+use Rattle.lines.specs.Writing.{Wrote, line}
+use Rattle.lines.specs.Listed.{faultLines}
+use Rattle.report.specs.Report.{lent, audited, reported, reportOf}
 
 -- ---- a part of a list
 pub part-fits : (b : ℕ) (ls : List ℕ) → b ≤ 4096 → length ls ≡ 4096 → b ≤ length ls
@@ -39,9 +40,6 @@ part-fits b ls h e = omega arith
 
 pub part-long : (b : ℕ) (ls : List ℕ) → b ≤ 4096 → length ls ≡ 4096 → b ≡ length (take b ls)
 part-long b ls h e = sym (length-take-le b ls (omega arith))
-
-pub part-short : (b : ℕ) (ls : List ℕ) → b ≤ 4096 → length ls ≡ 4096 → length (take b ls) ≤ 4096
-part-short b ls h e = omega (arith, part-long b ls h e)
 
 -- ---- an audit's answer
 audit-few : (n : ℕ) (t : Tables) (counts list : List ℕ) → auditOf n t counts list .answer .bytes ≤ length list

@@ -1,20 +1,19 @@
 -- [01:The report program]. What is printed of a text that is not over-long. To be believed: all of this file. Assumes nothing.
-use Prim.Native.Nat.{ℕ, zero, suc}
-use mathlib.Core.List.{List, [], _∷_, _++_}
+use Prim.Native.Nat.{ℕ}
+use mathlib.Core.List.{List, [], _∷_}
 use mathlib.Core.Bool.{true, false}
 use lib.Dec.{eqb}
 use lib.IntN.{pos}
-use lib.ListN.{length, take, drop, replicate}
+use lib.ListN.{take, replicate}
 use Rattle.facts.specs.Text.{bytes}
 use Rattle.mesh.specs.Rows.{places}
-use Rattle.records.specs.declared.Fault.{Fault}
-use Rattle.records.specs.Record.{narrow, extraBytes, sizeOf, readBack}
 use Rattle.layout.specs.declared.Reply.{Reply}
 use Rattle.layout.specs.Replies.{numberOf}
 use Rattle.layout.specs.Rows.{Lent, noZone}
 use Rattle.layout.specs.Read.{readOf}
 use Rattle.audit.specs.Audit.{tables, Out, auditOf}
-use Rattle.report.specs.Writing.{decimal, line}
+use Rattle.lines.specs.Writing.{line}
+use Rattle.lines.specs.Listed.{faultLines}
 
 -- "with room for 1,024 nodes, faces and cells, 64 zones and a 4,096-byte list"
 abbrev pub lent : Lent
@@ -26,28 +25,6 @@ lent =
       cells = replicate 2048 0;
       zones = replicate 64 noZone;
     }
-
--- "a line for each listed record: kind, then its body's numbers in decimal"
-abbrev pub extras : Fault → List ℕ
-extras f = elim (eqb (extraBytes narrow (f .kind)) 0) [ true ↦ [] | false ↦ f .extra ∷ [] ]
-
-abbrev pub recordLine : Fault → List ℕ
-recordLine f = line (decimal (f .kind)) (f .index ∷ extras f)
-
--- a line for each fault
-abbrev pub faultsPrinted : List Fault → List ℕ
-faultsPrinted [] = []
-faultsPrinted (f ∷ fs) = recordLine f ++ faultsPrinted fs
-
--- the lines of the records that stand in a list's bytes, n at most; `lines-of` shows that they are those of the faults that were listed
-unfoldable pub recordLines : ℕ → List ℕ → List ℕ
-recordLines zero list = []
-recordLines (suc n) [] = []
-recordLines (suc n) (b ∷ list) =
-    recordLine (readBack narrow (b ∷ list)) ++ recordLines n (drop (sizeOf narrow (readBack narrow (b ∷ list) .kind)) (b ∷ list))
-
-abbrev pub faultLines : ℕ → List ℕ → List ℕ
-faultLines total list = line (bytes "faults") (total ∷ []) ++ recordLines (length list) list
 
 -- "No faults prints `clean`, nodes, faces, cells. Else `faults` and the total, then a line for each listed record"
 abbrev pub audited : Out → ℕ → ℕ → ℕ → List ℕ

@@ -1,21 +1,18 @@
 // A text read and audited, and what is printed of it.
-ghost use Prim.Native.Nat.{_≤_};
 ghost use mathlib.Core.Path.{_≡_};
 ghost use mathlib.Core.List.{[], _∷_};
-ghost use lib.ListN.{length, replicate};
+ghost use lib.ListN.{replicate};
 ghost use Rattle.facts.specs.Text.{bytes};
 ghost use Rattle.mesh.specs.Rows.{places};
 ghost use Rattle.layout.specs.Replies.{numberOf};
 ghost use Rattle.audit.specs.Audit.{tables, auditOf};
-ghost use Rattle.report.specs.Writing.{Wrote, line};
-ghost use Rattle.report.specs.Report.{faultLines, audited, reportOf};
-use super::lines::put_last;
-use super::lines::put_line;
-use super::listed::put_faults;
-use super::put::put_text;
+ghost use Rattle.lines.specs.Writing.{Wrote, line};
+ghost use Rattle.report.specs.Report.{audited, reportOf};
 use audit::Audited;
 use layout::Refusal;
 use layout::Reply;
+use lines::put_line;
+use lines::put_total;
 
 fn put_refusal(out: &mut [u8], why: Refusal, section: u32, offset: usize) -> usize
     ensures { λ r. ⌜ Wrote (now (out .entry)) 0 (line (bytes "refused") (numberOf why ∷ section ∷ offset ∷ [])) (now (out .exit)) r ⌝ }
@@ -23,17 +20,6 @@ fn put_refusal(out: &mut [u8], why: Refusal, section: u32, offset: usize) -> usi
     let number = layout::number_of(why) as usize;
     let k = section as usize;
     put_line(out, b"refused", number, k, offset)
-}
-
-// The total, and a line for each record.
-fn put_total(out: &mut [u8], total: u32, list: &[u8]) -> usize
-    requires { ⌜ length (now list) ≤ 4096 ⌝ }
-    ensures { λ r. ⌜ Wrote (now (out .entry)) 0 (faultLines total (now (list .entry))) (now (out .exit)) r ⌝ }
-{
-    let n = total as usize;
-    let c = put_text(out, 0, b"faults");
-    let d = put_last(out, c, n);
-    put_faults(out, d, list)
 }
 
 fn put_clean(out: &mut [u8], nodes: u32, faces: u32, cells: u32) -> usize

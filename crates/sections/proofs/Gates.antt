@@ -13,16 +13,18 @@ use Rattle.layout.specs.Items as Items
 use Rattle.layout.specs.Reading.{Got, got, bad, Reader, next, pure, choose, rightOf}
 use Rattle.layout.specs.State.{dimAfter, dimAgrees, dimListed, typeListed, fifthListed, fitsIn, declRange, partRange, zoneFits}
 use Rattle.layout.specs.Sections.{headerOf, bodyOf, declOf, partOf}
-use Rattle.heads.specs.declared.head.Kind.{Kind}
-use Rattle.heads.specs.declared.head.Head.{Head}
-use Rattle.judging.specs.declared.judge.State.{State}
-use Rattle.judging.specs.declared.judge.Room.{Room}
+use Rattle.spots.specs.declared.Kind.{Kind}
+use Rattle.spots.specs.declared.Head.{Head}
+use Rattle.sofar.specs.declared.State.{State}
+use Rattle.sofar.specs.declared.Room.{Room}
 use Rattle.judging.specs.declared.judge.Judged.{Judged}
-use Rattle.sections.specs.declared.section.Met.{Met}
-use Rattle.heads.specs.Heads.{kindFor, fifthFor, headFor}
+use Rattle.notes.specs.declared.note.Met.{Met}
+use Rattle.spots.specs.Heads.{kindFor, fifthFor, headFor}
 use Rattle.bodies.specs.Bodies.{forget}
-use Rattle.listing.specs.Listing.{limitFor, dimWordFor, agrees, known}
-use Rattle.judging.specs.Judging.{seenOf, roomOf, test, declJudged, partJudged, countFor}
+use Rattle.ranges.specs.Ranges.{limitFor}
+use Rattle.dims.specs.Dims.{dimWordFor, agrees, known}
+use Rattle.judging.specs.Judging.{test, declJudged, partJudged}
+use Rattle.sofar.specs.Sofar.{seenOf, roomOf, countFor}
 use Rattle.sections.specs.Sections.{Outline, outlineOf, outlined, metFor, roomAll, stateFor, clearFor, gate, ended, bodyEnded}
 
 -- ---- the tests of the code are those of the layout

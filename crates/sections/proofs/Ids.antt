@@ -15,7 +15,7 @@ use Rattle.layout.specs.State as St
 use Rattle.layout.specs.Reading as R
 use Rattle.layout.specs.Reading.{Got, got, bad, Reader, next, check, choose, idWord}
 use Rattle.layout.specs.Sections.{twoOf, kindOf, otherOf, sectionOf}
-use Rattle.steps.specs.declared.step.Bad.{Bad}
+use Rattle.spots.specs.declared.Bad.{Bad}
 use Rattle.steps.specs.declared.step.Num.{Num}
 use Rattle.sections.specs.declared.section.Sect.{Sect}
 use Rattle.steps.specs.Views.{NumAt}

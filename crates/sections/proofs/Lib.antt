@@ -3,4 +3,3 @@ pub mod Sections
 pub mod Ids
 pub mod Noting
 pub mod Alike
-pub mod Only

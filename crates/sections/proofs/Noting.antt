@@ -5,7 +5,7 @@ use native.Mathlib.Numerals.{add-one}
 use mathlib.Core.Path.{_≡_, refl, sym, _∙_, ap}
 use mathlib.Core.List.{List, [], _∷_}
 use mathlib.Core.Bool.{Bool, true, false}
-use borrow.Author.Tests.{lt-ltb, le-ltb}
+use borrow.Author.Tests.{lt-ltb}
 use lib.Dec.{eqb}
 use lib.ListN.{length, getD, set}
 use lib.Seq.{getD-set-same, getD-set-other}
@@ -13,18 +13,15 @@ use Rattle.sizes.specs.Sizes.{zones}
 use Rattle.layout.specs.Items as Items
 use Rattle.layout.specs.State as St
 use Rattle.layout.specs.State.{Span, per, put, spanned, declaredAs, after, dimAfter}
-use Rattle.heads.specs.declared.head.Kind.{Kind}
-use Rattle.heads.specs.declared.head.Head.{Head}
-use Rattle.judging.specs.declared.judge.State.{State}
-use Rattle.sections.specs.declared.section.Met.{Met}
-use Rattle.heads.specs.declared.head.Fifth.{Fifth}
-use Rattle.heads.specs.Heads.{fifthFor}
-use Rattle.listing.specs.Listing.{dimWordFor}
-use Rattle.judging.specs.Judging.{idFor}
-use Rattle.sections.specs.Noting.{more, withSeen, withDim, dimWith, noteState, noteId, noteFirst, noteLast, notePlace}
+use Rattle.spots.specs.declared.Kind.{Kind}
+use Rattle.spots.specs.declared.Head.{Head}
+use Rattle.sofar.specs.declared.State.{State}
+use Rattle.notes.specs.declared.note.Met.{Met}
+use Rattle.sofar.specs.Sofar.{idFor}
+use Rattle.notes.specs.Noting.{more, noteState, noteId, noteFirst, noteLast}
 use Rattle.sections.specs.Sections.{Outline, dim, decl, part, other, outlineOf, metFor, stateFor}
-use Rattle.judging.specs.declared.kept.Entry.{Entry}
-use Rattle.judging.specs.Kept.{consed, entryAt, keptOf}
+use Rattle.kept.specs.declared.Entry.{Entry}
+use Rattle.kept.specs.Kept.{consed, entryAt, keptOf}
 
 abbrev made : ℕ → ℕ → ℕ → ℕ → Entry
 made id t f l = elim (eqb t id) [ true ↦ Entry.Span f l | false ↦ Entry.Other ]
@@ -98,34 +95,3 @@ module _ (ids firsts lasts : List ℕ) (x : State) (a : length ids ≡ zones) (b
       → stateFor (noteId m (x .zones) ids) (noteFirst m (x .zones) firsts) (noteLast m (x .zones) lasts) (noteState x m) ≡ after (stateFor ids firsts lasts x) i
   note-is m i e l =
       met-noted m (λ q. l (ap isPart (sym e) ∙ q)) ∙ ap (afterOutline (stateFor ids firsts lasts x)) e ∙ after-outline (stateFor ids firsts lasts x) i
-
--- ---- the code's parts of it
-pub dim-noted : (x : State) (k : Kind) (h : Head) {w : Fifth} {d : ℕ} → w ≡ dimWordFor k (h .fifth) → d ≡ dimAfter (x .dim) (fifthFor w) → d ≡ dimWith x k h
-dim-noted x k h e q = q ∙ ap (λ y. dimAfter (x .dim) (fifthFor y)) e
-
-pub more-in : (z : ℕ) → z < zones → z + 1 ≡ more z
-more-in z l = rw (more, lt-ltb z zones l, add-one)
-
-pub more-out : (z : ℕ) → zones ≤ z → z ≡ more z
-more-out z l = rw (more, le-ltb z zones l)
-
-pub decl-noted : (x : State) (k : Kind) (h : Head) {m : Met} {d : ℕ} {y : State} → m ≡ Met.Decl k h → d ≡ dimWith x k h
-    → y ≡ withSeen x k (record { declared = true; total = h .last .value }) d → y ≡ noteState x m
-decl-noted x k h e q w = w ∙ ap (withSeen x k (record { declared = true; total = h .last .value })) q ∙ ap (noteState x) (sym e)
-
-pub part-noted-by : (x : State) (k : Kind) (h : Head) {m : Met} {d z : ℕ} {y : State} → m ≡ Met.Part k h → d ≡ dimWith x k h → z ≡ more (x .zones)
-    → y ≡ withDim x d z → y ≡ noteState x m
-part-noted-by x k h {z = z} e q r w = w ∙ ap (λ a. withDim x a z) q ∙ ap (withDim x (dimWith x k h)) r ∙ ap (noteState x) (sym e)
-
-module _ (k : Kind) (h : Head) (z : ℕ) (l : List ℕ) {m : Met} {w : List ℕ} (e : m ≡ Met.Part k h) where
-  pub id-kept : {v : ℕ} → v ≡ idFor k → w ≡ set l z v → w ≡ noteId m z l
-  id-kept q r = r ∙ ap (set l z) q ∙ ap (λ y. noteId y z l) (sym e)
-
-  pub first-kept : w ≡ set l z (h .first .value) → w ≡ noteFirst m z l
-  first-kept r = r ∙ ap (λ y. noteFirst y z l) (sym e)
-
-  pub last-kept : w ≡ set l z (h .last .value) → w ≡ noteLast m z l
-  last-kept r = r ∙ ap (λ y. noteLast y z l) (sym e)
-
-  pub place-kept : (p : ℕ) → w ≡ set l z p → w ≡ notePlace m z p l
-  place-kept p r = r ∙ ap (λ y. notePlace y z p l) (sym e)

@@ -16,27 +16,30 @@ use Rattle.layout.specs.State as St
 use Rattle.layout.specs.Keeps as Keeps
 use Rattle.layout.specs.Sections as S
 use Rattle.layout.specs.Sections.{bodyOf, otherOf}
-use Rattle.steps.specs.declared.step.Bad.{Bad}
-use Rattle.steps.specs.declared.step.Past.{Past}
+use Rattle.spots.specs.declared.Bad.{Bad}
+use Rattle.spots.specs.declared.Past.{Past}
 use Rattle.steps.specs.declared.step.Close.{Close}
 use Rattle.steps.specs.declared.step.Num.{Num}
-use Rattle.heads.specs.declared.head.Kind.{Kind}
-use Rattle.heads.specs.declared.head.Head.{Head}
+use Rattle.spots.specs.declared.Kind.{Kind}
+use Rattle.spots.specs.declared.Head.{Head}
 use Rattle.heads.specs.declared.head.Header.{Header}
-use Rattle.heads.specs.declared.head.Fifth.{Fifth}
-use Rattle.listing.specs.declared.listed.Limit.{Limit}
-use Rattle.judging.specs.declared.judge.Seen.{Seen}
-use Rattle.judging.specs.declared.judge.State.{State}
-use Rattle.judging.specs.declared.judge.Room.{Room}
+use Rattle.spots.specs.declared.Fifth.{Fifth}
+use Rattle.ranges.specs.declared.Limit.{Limit}
+use Rattle.sofar.specs.declared.Seen.{Seen}
+use Rattle.sofar.specs.declared.State.{State}
+use Rattle.sofar.specs.declared.Room.{Room}
 use Rattle.judging.specs.declared.judge.Judged.{Judged}
-use Rattle.sections.specs.declared.section.Met.{Met}
+use Rattle.notes.specs.declared.note.Met.{Met}
 use Rattle.sections.specs.declared.section.Sect.{Sect}
-use Rattle.steps.specs.Views.{pastView, PastAt, CloseAt, NumAt}
-use Rattle.heads.specs.Heads.{kindFor, fifthFor, headFor, headView, HeadAt}
+use Rattle.steps.specs.Views.{CloseAt, NumAt}
+use Rattle.spots.specs.Pasts.{pastView, PastAt}
+use Rattle.heads.specs.Heads.{headView, HeadAt}
+use Rattle.spots.specs.Heads.{kindFor, fifthFor, headFor}
 use Rattle.bodies.specs.Bodies.{forget, LooseAt}
-use Rattle.judging.specs.Kept.{keptOf}
-use Rattle.listing.specs.Listing.{dimWordFor}
-use Rattle.judging.specs.Judging.{seenOf, roomOf, idFor, declJudged, partJudged, countFor}
+use Rattle.kept.specs.Kept.{keptOf}
+use Rattle.dims.specs.Dims.{dimWordFor}
+use Rattle.judging.specs.Judging.{declJudged, partJudged}
+use Rattle.sofar.specs.Sofar.{seenOf, roomOf, idFor, countFor}
 use Rattle.sections.specs.Sections.{Outline, outlined, metFor, sectView, SectAhead, SectAt, settle, clearFor, gate, ended, twoJudged, twoEnd}
 use Rattle.steps.proofs.Chain.{past-no, past-to, past-ahead, close-no, close-to, close-ahead, num-no, num-to, num-ahead}
 use Rattle.bodies.proofs.Loose.{loose-is}

@@ -13,21 +13,23 @@ use Rattle.layout.specs.State as St
 use Rattle.layout.specs.State.{every, clear, dimAfter, dimListed, dimAgrees}
 use Rattle.layout.specs.Reading.{Got, got, bad, Reader, next, _>>=_, _>>_, pure, check, choose, rightOf}
 use Rattle.layout.specs.Sections.{headerOf, bodyOf, twoOf, kindOf, otherOf}
-use Rattle.steps.specs.declared.step.Bad.{Bad}
-use Rattle.heads.specs.declared.head.Kind.{Kind}
-use Rattle.heads.specs.declared.head.Fifth.{Fifth}
-use Rattle.heads.specs.declared.head.Head.{Head}
-use Rattle.judging.specs.declared.judge.Seen.{Seen}
-use Rattle.judging.specs.declared.judge.State.{State}
-use Rattle.judging.specs.declared.judge.Room.{Room}
+use Rattle.spots.specs.declared.Bad.{Bad}
+use Rattle.spots.specs.declared.Kind.{Kind}
+use Rattle.spots.specs.declared.Fifth.{Fifth}
+use Rattle.spots.specs.declared.Head.{Head}
+use Rattle.sofar.specs.declared.Seen.{Seen}
+use Rattle.sofar.specs.declared.State.{State}
+use Rattle.sofar.specs.declared.Room.{Room}
 use Rattle.judging.specs.declared.judge.Judged.{Judged}
-use Rattle.sections.specs.declared.section.Met.{Met}
+use Rattle.notes.specs.declared.note.Met.{Met}
 use Rattle.sections.specs.declared.section.Sect.{Sect}
-use Rattle.heads.specs.Heads.{kindFor, fifthFor, headFor}
+use Rattle.spots.specs.Heads.{kindFor, fifthFor, headFor}
 use Rattle.bodies.specs.Bodies.{forget}
-use Rattle.judging.specs.Kept.{keptOf}
-use Rattle.listing.specs.Listing.{limitFor, dimWordFor, agrees}
-use Rattle.judging.specs.Judging.{idFor, test, countFor}
+use Rattle.kept.specs.Kept.{keptOf}
+use Rattle.ranges.specs.Ranges.{limitFor}
+use Rattle.dims.specs.Dims.{dimWordFor, agrees}
+use Rattle.judging.specs.Judging.{test}
+use Rattle.sofar.specs.Sofar.{idFor, countFor}
 
 -- an item without its body
 pub data Outline : Type 0 where

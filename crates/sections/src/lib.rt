@@ -1,9 +1,5 @@
-// One section judged, its rows left out, and what is kept of it.
-mod note;
+// One section judged, its rows left out.
 mod section;
 
-pub use note::keep;
-pub use note::noted;
-pub use section::Met;
 pub use section::Sect;
 pub use section::section_at;

@@ -6,48 +6,42 @@ ghost use mathlib.Core.Bool.{_||_};
 ghost use Rattle.tokens.specs.Listed.{tokensFrom};
 ghost use Rattle.layout.specs.Reading.{choose};
 ghost use Rattle.layout.specs.Sections.{twoOf, declOf, partOf, kindOf, otherOf, sectionOf};
-ghost use Rattle.heads.specs.Heads.{kindFor, headFor};
-ghost use Rattle.judging.specs.Judging.{seenOf, roomOf, declJudged, partJudged};
+ghost use Rattle.spots.specs.Heads.{kindFor, headFor};
+ghost use Rattle.judging.specs.Judging.{declJudged, partJudged};
+ghost use Rattle.sofar.specs.Sofar.{seenOf, roomOf};
 ghost use Rattle.sections.specs.Sections.{SectAt, settle, twoJudged, gate, ended, bodyEnded, outlined, stateFor, roomAll, clearFor, twoEnd, byId};
 use bodies::body_at;
-use heads::Fifth;
-use heads::Head;
+use dims::dim_after;
+use dims::dim_agrees;
+use dims::dim_listed;
+use dims::dim_word;
 use heads::Header;
-use heads::Kind;
 use heads::head_at;
-use heads::skip_from;
 use judging::Judged;
-use judging::Room;
-use judging::State;
-use judging::count_of;
 use judging::decl_judged;
-use judging::id_of;
-use judging::is_clear;
 use judging::part_judged;
-use judging::room_of;
-use judging::seen_of;
 use judging::unless;
+use kept::is_clear;
 use layout::Refusal;
-use listing::dim_after;
-use listing::dim_agrees;
-use listing::dim_listed;
-use listing::dim_word;
+use notes::Met;
 use numbers::Sort;
-use steps::Bad;
+use skips::skip_from;
+use sofar::Room;
+use sofar::State;
+use sofar::count_of;
+use sofar::id_of;
+use sofar::room_of;
+use sofar::seen_of;
+use spots::Bad;
+use spots::Fifth;
+use spots::Head;
+use spots::Kind;
+use spots::Past;
 use steps::Close;
 use steps::Num;
-use steps::Past;
 use steps::id_at;
 use steps::number_at;
 use steps::right_at;
-
-// What a section says, its body aside.
-pub enum Met {
-    Dim(u32),
-    Decl { kind: Kind, head: Head },
-    Part { kind: Kind, head: Head },
-    Other,
-}
 
 pub enum Sect {
     Is { met: Met, next: usize },

@@ -2,12 +2,13 @@
 use mathlib.Core.Path.{sym, _∙_}
 use denote.Ref.{now}
 use Rattle.facts.specs.Alike.{Alike}
-use Rattle.steps.specs.Views.{pastView, closeView, numView, pairView}
+use Rattle.steps.specs.Views.{closeView, numView, pairView}
+use Rattle.spots.specs.Pasts.{pastView}
 use Rattle.steps.proofs.step.left_at.Reads as left-at
 use Rattle.steps.proofs.step.right_at.Reads as right-at
 use Rattle.steps.proofs.step.number_at.Reads as number-at
 use Rattle.steps.proofs.ids.id_at.Reads as id-at
-use Rattle.steps.proofs.quick.pair_at.Reads as pair-at
+use Rattle.steps.proofs.pair.pair_at.Reads as pair-at
 
 pub left-at-alike : Alike (λ κ a r. pastView (now (a .0)) r) left-at.Post
 left-at-alike κ a r r′ x x′ p q = p .says ∙ sym (q .says)

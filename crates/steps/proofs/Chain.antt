@@ -6,11 +6,12 @@ use lib.ListN.{length}
 use Rattle.tokens.specs.Listed.{tokensFrom}
 use Rattle.layout.specs.Reading as R
 use Rattle.layout.specs.Reading.{Got, bad, Reader, next}
-use Rattle.steps.specs.declared.step.Bad.{Bad}
-use Rattle.steps.specs.declared.step.Past.{Past}
+use Rattle.spots.specs.declared.Bad.{Bad}
+use Rattle.spots.specs.declared.Past.{Past}
 use Rattle.steps.specs.declared.step.Close.{Close}
 use Rattle.steps.specs.declared.step.Num.{Num}
-use Rattle.steps.specs.Views.{pastView, closeView, numView, PastAt, CloseAt, NumAt}
+use Rattle.steps.specs.Views.{closeView, numView, CloseAt, NumAt}
+use Rattle.spots.specs.Pasts.{pastView, PastAt}
 
 -- ---- any reader behind a thing that was read
 module _ {A : Type 0} (s : List ℕ) (at : ℕ) where

@@ -20,7 +20,7 @@ use Rattle.numbers.specs.declared.whole.Whole.{Whole}
 use Rattle.digits.specs.Digits.{within, digitOf, Figures, worth}
 use Rattle.numbers.specs.Whole.{sectionIdOf}
 use Rattle.digits.proofs.Digits.{within-is}
-use Rattle.numbers.proofs.Pieces.{wholeOf-exact}
+use Rattle.numbers.proofs.Wholes.{wholeOf-exact}
 use Rattle.layout.specs.Reading.{numberBy}
 use Rattle.steps.specs.declared.step.Num.{Num}
 use Rattle.steps.specs.Views.{NumAt, wholeFor}

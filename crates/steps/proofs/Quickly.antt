@@ -1,59 +1,39 @@
--- The usual number word: what the code finds is what the definition says, and it is the number that the token's word is. Assumes nothing.
-use Prim.Native.Nat.{ℕ, _+_, _-_, _≤_, _<_, min}
+-- The usual number word: what is found by its bytes is the number that the token's word is. Assumes nothing.
+use Prim.Native.Nat.{ℕ, _+_, _≤_}
 use native.Mathlib.Omega.{arith}
 use mathlib.Core.Path.{_≡_, refl, sym, ap, subst, _∙_}
 use mathlib.Core.List.{List}
 use mathlib.Core.Bool.{Bool, true, false, _&&_, _||_}
-use borrow.Author.Tests.{lt-ltb, ltb-true, eqb-true}
+use borrow.Author.Tests.{ltb-true, eqb-true}
 use lib.Dec.{ltb, eqb}
-use lib.IntN.{ℤ}
-use lib.ListN.{length, take, drop}
-use Rattle.facts.proofs.Branch.{split, differ}
+use lib.IntN.{ℤ, pos}
+use lib.ListN.{length, take}
+use Rattle.facts.proofs.Branch.{split, either, differ}
 use Rattle.facts.proofs.Decides.{and-split, or-split, either-of}
 use Rattle.tokens.specs.declared.Token.{Token}
-use Rattle.tokens.specs.Tokens.{startOf, endsWord, stepOf, tokenAt}
+use Rattle.tokens.specs.Tokens.{startOf, endsWord, stepOf}
 use Rattle.tokens.specs.Listed.{tokensFrom}
 use Rattle.digits.specs.declared.quick.Hexes.{Hexes}
 use Rattle.numbers.specs.declared.sort.Sort.{Sort}
-use Rattle.numbers.specs.declared.decimal.Decimal.{Decimal}
-use Rattle.numbers.specs.declared.decimal.Lead.{Lead}
-use Rattle.numbers.specs.Coordinate.{coordinateOf}
-use Rattle.numbers.specs.Lead.{isPart, leadOf}
-use Rattle.digits.specs.Digits.{within, digitOf}
+use Rattle.decimals.specs.declared.decimal.Decimal.{Decimal}
+use Rattle.decimals.specs.declared.decimal.Lead.{Lead}
+use Rattle.decimals.specs.Coordinate.{coordinateOf}
+use Rattle.decimals.specs.Lead.{isPart, leadOf}
+use Rattle.digits.specs.Digits.{within}
 use Rattle.digits.specs.Hexes.{hexesOf}
 use Rattle.digits.proofs.Digits.{within-is}
-use Rattle.numbers.proofs.Led.{lead-is, lead-next, lead-parts}
-use Rattle.numbers.proofs.AtOnce.{Worded, hexes-worded, digit-high}
+use Rattle.decimals.proofs.Led.{lead-is, lead-next, lead-parts}
+use Rattle.numbers.proofs.AtOnce.{hexes-worded, digit-high}
+use Rattle.quick.specs.declared.words.Quick.{Quick}
+use Rattle.quick.specs.Quick.{quickOf}
+use Rattle.pairs.specs.declared.leads.Leads.{Leads}
+use Rattle.pairs.specs.Pairs.{window, leadsBy, leadsOf}
+use Rattle.pairs.proofs.Windows.{word-bytes, word-here}
 use Rattle.layout.specs.Reading.{numberBy, pairWord}
 use Rattle.steps.specs.declared.step.Num.{Num}
 use Rattle.steps.specs.declared.step.Pair.{Pair}
-use Rattle.steps.specs.declared.quick.Quick.{Quick}
 use Rattle.steps.specs.Views.{NumAt, PairAt, wholeFor}
-use Rattle.steps.specs.Quick.{hexesFrom, window, quickBy, quickOf}
 use Rattle.steps.proofs.Taken.{number-is, pair-is}
-use Rattle.steps.proofs.Windows.{window-is, inside, word-bytes, word-here}
-
-module _ (s : List ℕ) (i : ℕ) (h : Hexes) where
-  abbrev pick : Bool → ℕ → Quick
-  pick t k = elim t [ true ↦ Quick.Is (h .value) (i + k) | false ↦ Quick.Not ]
-
-  pub quick-none : h .count ≡ 0 → Quick.Not ≡ quickBy s i h
-  quick-none z = sym (ap (λ k. pick (ltb 0 k && endsWord s (i + k)) k) z)
-
-  module _ (n : h .count ≡ 0 → ⊥) where
-    picked : (t : Bool) → endsWord s (i + h .count) ≡ t → pick t (h .count) ≡ quickBy s i h
-    picked t e = sym (λ j. pick (lt-ltb 0 (h .count) (omega (arith, n)) j && e j) (h .count))
-
-    pub quick-on : endsWord s (i + h .count) ≡ false → Quick.Not ≡ quickBy s i h
-    quick-on e = picked false e
-
-    pub quick-is : endsWord s (i + h .count) ≡ true → Quick.Is (h .value) (i + h .count) ≡ quickBy s i h
-    quick-is e = picked true e
-
-  -- the digits at the next token's start
-  pub quick-from : (at : ℕ) → i ≡ startOf s at → h ≡ hexesFrom s i → quickBy s i h ≡ quickOf s at
-  unfolding hexesFrom quickOf
-  quick-from at b f = ap (quickBy s i) f ∙ ap (λ k. quickBy s k (hexesFrom s k)) b
 
 -- ---- what is found is the number there
 abbrev pub isQuick : Quick → Bool
@@ -99,6 +79,14 @@ module _ (s : List ℕ) (at : ℕ) where
       differ true refl (ap isQuick none))
 
 -- ---- coordinates
+abbrev isLed : Leads → Bool
+isLed (Leads.Is m x n) = true
+isLed Leads.Not = false
+
+abbrev pairOf : Leads → Pair
+pairOf (Leads.Is m x n) = Pair.Is m x n
+pairOf Leads.Not = Pair.Is (pos 0) (pos 0) 0
+
 part-high : (b : ℕ) → isPart b ≡ true → 42 ≤ b
 part-high b h =
     either-of (or-split (within 48 57 b) _ h) (λ p. omega (arith, within-is 48 57 b p))
@@ -108,18 +96,9 @@ part-high b h =
     (λ t. either-of (or-split (eqb b 43) (eqb b 45) t) (λ p. omega (arith, eqb-true b 43 p)) (λ p. omega (arith, eqb-true b 45 p)))))
 
 module _ (s : List ℕ) (at : ℕ) where
-  -- the coordinate at the start of the part of the file up to e
-  pub lead-here : (i e : ℕ) (l : Lead) → i ≡ startOf s at → i ≤ length s → e ≡ i + min 64 (length s - i) → l ≡ leadOf (take (e - i) (drop i s)) → l ≡ leadOf (window s at 64)
-  lead-here i e l b h w f =
-      f ∙ ap (λ k. leadOf (take (k - i) (drop i s))) w ∙ ap (λ k. leadOf (take (k + min 64 (length s - k) - k) (drop k s))) b
-      ∙ ap leadOf (window-is s at 64 (subst (λ k. k ≤ length s) b h))
-
   module _ (m x : ℤ) (e : leadOf (window s at 64) .decimal ≡ Decimal.Is m x) where
     abbrev behind : ℕ
     behind = leadOf (window s at 64) .next
-
-    pub lead-inside : startOf s at + behind ≤ length s
-    lead-inside = let n = lead-next (window s at 64) m x e in inside s at 64 behind (n .0) (n .1)
 
     pair-there : endsWord s (startOf s at + behind) ≡ true → PairAt s at (Pair.Is m x (startOf s at + behind)) (pairWord (length s) (tokensFrom s at))
     pair-there ends =
@@ -135,8 +114,13 @@ module _ (s : List ℕ) (at : ℕ) where
       let k : i + l .next ≡ startOf s at + leadOf (window s at 64) .next = λ j. b j + f j .next in
       subst (λ n. PairAt s at (Pair.Is m x n) (pairWord (length s) (tokensFrom s at))) (sym k) (pair-there m x e (ap (λ n. endsWord s n) (sym k) ∙ ends))
 
-  pub pair-inside : (i : ℕ) (l : Lead) → i ≡ startOf s at → l ≡ leadOf (window s at 64) → (m x : ℤ) → l .decimal ≡ Decimal.Is m x → i + l .next ≤ length s
-  pair-inside i l b f m x d =
-      let e : leadOf (window s at 64) .decimal ≡ Decimal.Is m x = ap (λ (y : Lead). y .decimal) (sym f) ∙ d in
-      let k : i + l .next ≡ startOf s at + leadOf (window s at 64) .next = λ j. b j + f j .next in
-      omega (arith, k, lead-inside m x e)
+  leads-by : (d : Decimal) → leadOf (window s at 64) .decimal ≡ d → (m x : ℤ) (n : ℕ)
+      → leadsBy s (startOf s at) (leadOf (window s at 64) .next) d ≡ Leads.Is m x n → PairAt s at (Pair.Is m x n) (pairWord (length s) (tokensFrom s at))
+  leads-by (Decimal.Is k y) f m x n =
+      either (λ r. r ≡ Leads.Is m x n → PairAt s at (Pair.Is m x n) (pairWord (length s) (tokensFrom s at))) (endsWord s (startOf s at + leadOf (window s at 64) .next))
+      (λ p q. subst (λ r. PairAt s at r (pairWord (length s) (tokensFrom s at))) (ap pairOf q) (pair-there k y f p)) (λ _ q. differ false (ap isLed q) refl)
+  leads-by Decimal.Not f m x n = λ q. differ false (ap isLed q) refl
+
+  pub leads-pair : (r : Leads) → r ≡ leadsOf s at → (m x : ℤ) (n : ℕ) → r ≡ Leads.Is m x n → PairAt s at (Pair.Is m x n) (pairWord (length s) (tokensFrom s at))
+  unfolding leadsOf
+  leads-pair r f m x n e = leads-by (leadOf (window s at 64) .decimal) refl m x n (sym f ∙ e)

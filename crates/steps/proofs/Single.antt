@@ -1,10 +1,10 @@
--- A word of one decimal digit behind one blank: what the code finds is what the definition says, and it is the number there. Assumes nothing.
-use Prim.Native.Nat.{ℕ, _+_, _-_, _*_, _≤_, _<_}
+-- A word of one decimal digit behind one blank: it is the number there. Assumes nothing.
+use Prim.Native.Nat.{ℕ, _+_, _-_, _*_, _≤_}
 use native.Mathlib.Omega.{arith}
 use mathlib.Core.Path.{_≡_, refl, sym, ap, subst, _∙_}
 use mathlib.Core.List.{List, [], _∷_}
-use mathlib.Core.Bool.{Bool, true, false, _&&_}
-use borrow.Author.Tests.{le-leb, lt-leb, leb-true}
+use mathlib.Core.Bool.{Bool, true, _&&_}
+use borrow.Author.Tests.{leb-true}
 use lib.Dec.{leb}
 use lib.ListN.{length, take, drop, getD}
 use lib.Seq.{drop-cons}
@@ -19,54 +19,20 @@ use Rattle.numbers.specs.declared.whole.Whole.{Whole}
 use Rattle.digits.specs.Digits.{within, digitOf}
 use Rattle.numbers.specs.Whole.{hexadecimalOf}
 use Rattle.digits.proofs.Digits.{within-is}
-use Rattle.numbers.proofs.Pieces.{wholeOf-exact}
+use Rattle.numbers.proofs.Wholes.{wholeOf-exact}
 use Rattle.layout.specs.Reading.{numberBy}
+use Rattle.quick.specs.declared.words.Quick.{Quick}
+use Rattle.quick.specs.Quick.{figureOf, digitHex}
+use Rattle.quick.proofs.Figures.{figured}
 use Rattle.steps.specs.declared.step.Num.{Num}
-use Rattle.steps.specs.declared.quick.Quick.{Quick}
 use Rattle.steps.specs.Views.{NumAt, wholeFor}
-use Rattle.steps.specs.Quick.{figureOf, digitHex}
 use Rattle.steps.proofs.Taken.{number-is}
 use Rattle.steps.proofs.Quickly.{isQuick, valueOf, nextOf}
 
--- ---- the digit that a byte is
-module _ (b n : ℕ) where
-  abbrev figured : Bool → Quick
-  figured t = elim t [ true ↦ Quick.Is (b - 48) n | false ↦ Quick.Not ]
-
-  pub figure-low : b < 48 → Quick.Not ≡ figureOf b n
-  figure-low h = sym (ap (λ (t : Bool). figured (t && leb b 57)) (lt-leb 48 b h))
-
-  module _ (l : 48 ≤ b) where
-    pub figure-high : 57 < b → Quick.Not ≡ figureOf b n
-    figure-high h = sym (λ j. figured (le-leb 48 b l j && lt-leb b 57 h j))
-
-    pub figure-is : b ≤ 57 → Quick.Is (b - 48) n ≡ figureOf b n
-    figure-is h = sym (λ j. figured (le-leb 48 b l j && le-leb b 57 h j))
-
--- ---- the word
 module _ (s : List ℕ) (at : ℕ) where
   abbrev byte : ℕ
   byte = getD s (at + 1) 0
 
-  pub digit-short : length s < at + 3 → Quick.Not ≡ digitHex s at
-  unfolding digitHex
-  digit-short l = rw (lt-leb (at + 3) (length s) l, digitHex)
-
-  module _ (l : at + 3 ≤ length s) where
-    pub digit-solid : isBlank (getD s at 0) ≡ false → Quick.Not ≡ digitHex s at
-    unfolding digitHex
-    digit-solid b = rw (le-leb (at + 3) (length s) l, b, digitHex)
-
-    module _ (b : isBlank (getD s at 0) ≡ true) where
-      pub digit-on : endsWord s (at + 2) ≡ false → Quick.Not ≡ digitHex s at
-      unfolding digitHex
-      digit-on e = rw (le-leb (at + 3) (length s) l, b, e, digitHex)
-
-      pub digit-is : endsWord s (at + 2) ≡ true → (q : Quick) → q ≡ figureOf byte (at + 2) → q ≡ digitHex s at
-      unfolding digitHex
-      digit-is e q f = f ∙ rw (le-leb (at + 3) (length s) l, b, e, digitHex)
-
-  -- ---- it is the number there
   abbrev Number : ℕ → ℕ → Type 0
   Number v n = NumAt s at (Num.Is v (at + 1) n) (numberBy (length s) (wholeFor Sort.Hexadecimal) Sort.Hexadecimal (tokensFrom s at))
 

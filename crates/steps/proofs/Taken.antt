@@ -16,19 +16,20 @@ use Rattle.tokens.proofs.Token.{the-type}
 use Rattle.tokens.proofs.Bounds.{Moved}
 use Rattle.tokens.proofs.Listed.{tokens-kind, moved, ended}
 use Rattle.numbers.specs.declared.whole.Whole.{Whole}
-use Rattle.numbers.specs.declared.decimal.Decimal.{Decimal}
+use Rattle.decimals.specs.declared.decimal.Decimal.{Decimal}
 use Rattle.numbers.specs.declared.sort.Sort.{Sort}
-use Rattle.numbers.specs.Coordinate.{coordinateOf}
+use Rattle.decimals.specs.Coordinate.{coordinateOf}
 use Rattle.numbers.specs.Bad.{badAt}
 use Rattle.numbers.proofs.Bad.{badAt-within}
 use Rattle.layout.specs.declared.Refusal.{Refusal}
 use Rattle.layout.specs.Reading.{bad, Reader, leftOf, rightOf, wordOf, numbered, paired, numberBy, pairWord}
-use Rattle.steps.specs.declared.step.Bad.{Bad}
-use Rattle.steps.specs.declared.step.Past.{Past}
+use Rattle.spots.specs.declared.Bad.{Bad}
+use Rattle.spots.specs.declared.Past.{Past}
 use Rattle.steps.specs.declared.step.Close.{Close}
 use Rattle.steps.specs.declared.step.Num.{Num}
 use Rattle.steps.specs.declared.step.Pair.{Pair}
-use Rattle.steps.specs.Views.{PastAt, CloseAt, NumAt, PairAt, wholeFor}
+use Rattle.steps.specs.Views.{CloseAt, NumAt, PairAt, wholeFor}
+use Rattle.spots.specs.Pasts.{PastAt}
 
 abbrev grammar : ℕ → Bad
 grammar o = record { why = Refusal.Grammar; offset = o }

@@ -9,26 +9,10 @@ use Rattle.numbers.specs.declared.sort.Sort.{Sort}
 use Rattle.numbers.specs.Whole.{hexadecimalOf, sectionIdOf}
 use Rattle.layout.specs.Items as Items
 use Rattle.layout.specs.Reading.{Got, got, bad, Read}
-use Rattle.steps.specs.declared.step.Past.{Past}
+use Rattle.spots.specs.Pasts.{Ahead}
 use Rattle.steps.specs.declared.step.Close.{Close}
 use Rattle.steps.specs.declared.step.Num.{Num}
 use Rattle.steps.specs.declared.step.Pair.{Pair}
-
--- a next place lies behind this one, and within the file
-abbrev pub Ahead : ℕ → List ℕ → ℕ → Type 0
-Ahead at s n = (at < n) × (n ≤ length s)
-
-abbrev pub pastView : List ℕ → Past → Got Unit
-pastView s (Past.To n) = got tt (tokensFrom s n)
-pastView s (Past.No b) = bad (b .why) (b .offset)
-
-abbrev pub PastAhead : ℕ → List ℕ → Past → Type 0
-PastAhead at s (Past.To n) = Ahead at s n
-PastAhead at s (Past.No b) = Unit
-
-pub record PastAt (s : List ℕ) (at : ℕ) (r : Past) (g : Got Unit) : Type 0 where
-  pub says : pastView s r ≡ g
-  pub ahead : PastAhead at s r
 
 abbrev pub closeView : List ℕ → Close → Got ℕ
 closeView s (Close.At i n) = got i (tokensFrom s n)

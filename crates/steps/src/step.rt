@@ -3,25 +3,16 @@ ghost use mathlib.Core.Path.{_≡_};
 ghost use lib.ListN.{length};
 ghost use Rattle.tokens.specs.Listed.{tokensFrom};
 ghost use Rattle.layout.specs.Reading.{leftOf, rightOf, numberBy, pairWord};
-ghost use Rattle.steps.specs.Views.{PastAt, CloseAt, NumAt, PairAt, wholeFor};
+ghost use Rattle.steps.specs.Views.{CloseAt, NumAt, PairAt, wholeFor};
+ghost use Rattle.spots.specs.Pasts.{PastAt};
+use decimals::Decimal;
 use layout::Refusal;
-use numbers::Decimal;
 use numbers::Sort;
 use numbers::Whole;
+use spots::Bad;
+use spots::Past;
 use tokens::Cursor;
 use tokens::Token;
-
-// Why and where a file is refused.
-pub struct Bad {
-    pub why: Refusal,
-    pub offset: usize,
-}
-
-// The place behind a thing.
-pub enum Past {
-    To(usize),
-    No(Bad),
-}
 
 // A closing parenthesis and the place behind it.
 pub enum Close {
@@ -130,7 +121,7 @@ pub(crate) fn pair_by_token(s: &[u8], at: usize) -> Pair
             offset: start,
         });
     };
-    let d = numbers::coordinate(&s[start..next]);
+    let d = coordinates::coordinate(&s[start..next]);
     let Decimal::Is { mantissa, exponent } = d else {
         let bad = numbers::bad_at(Sort::Coordinate, &s[start..next]);
         let offset = start + bad;

@@ -14,8 +14,8 @@ use Rattle.layout.specs.declared.Reply.{Reply}
 use Rattle.layout.specs.Keeps as Keeps
 use Rattle.layout.specs.State.{tiled}
 use Rattle.layout.specs.Read.{accepted, refused, ending, endOf, tokensAnswer, answerOf}
-use Rattle.judging.specs.declared.judge.State.{State}
-use Rattle.judging.specs.Kept.{keptOf}
+use Rattle.sofar.specs.declared.State.{State}
+use Rattle.kept.specs.Kept.{keptOf}
 use Rattle.sections.specs.Sections.{stateFor}
 use Rattle.survey.specs.Files.{verdict, closing}
 use Rattle.survey.specs.Sites.{tokenSites, sitesOf, placesOf}

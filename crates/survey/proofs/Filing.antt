@@ -34,14 +34,14 @@ use Rattle.layout.proofs.Sums.{Seen, none-seen, one-more}
 use Rattle.layout.proofs.SoundSections.{section-holds}
 use Rattle.layout.proofs.Behind.{section-less}
 use Rattle.layout.proofs.Enough.{fileOf-enough}
-use Rattle.steps.specs.declared.step.Bad.{Bad}
-use Rattle.judging.specs.declared.judge.State.{State}
-use Rattle.sections.specs.declared.section.Met.{Met}
+use Rattle.spots.specs.declared.Bad.{Bad}
+use Rattle.sofar.specs.declared.State.{State}
+use Rattle.notes.specs.declared.note.Met.{Met}
 use Rattle.sections.specs.declared.section.Sect.{Sect}
-use Rattle.judging.specs.declared.judge.Seen as S
-use Rattle.judging.specs.Kept.{keptOf}
-use Rattle.judging.specs.Judging.{idFor}
-use Rattle.sections.specs.Noting.{noteState, noteId, noteFirst, noteLast, notePlace}
+use Rattle.sofar.specs.declared.Seen as S
+use Rattle.kept.specs.Kept.{keptOf}
+use Rattle.sofar.specs.Sofar.{idFor}
+use Rattle.notes.specs.Noting.{noteState, noteId, noteFirst, noteLast, notePlace}
 use Rattle.sections.specs.Sections.{Outline, other, outlineOf, outlined, metFor, sectView, SectAt, stateFor}
 use Rattle.survey.specs.Files.{verdict, lastOf}
 use Rattle.survey.specs.Sites.{sited, sitedBy, sitesFrom, tokenSites}

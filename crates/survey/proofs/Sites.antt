@@ -24,13 +24,14 @@ use Rattle.layout.proofs.Answers.{Held, held, none, Met, met, unmet, met-if}
 use Rattle.layout.proofs.Sums.{Seen, none-seen, one-more}
 use Rattle.layout.proofs.SoundSections.{section-holds}
 use Rattle.layout.proofs.Behind.{section-less, section-behind}
-use Rattle.judging.specs.declared.judge.State.{State}
-use Rattle.heads.specs.declared.head.Kind.{Kind}
-use Rattle.sections.specs.declared.section.Met as Code
-use Rattle.sections.specs.Noting.{noteState, notePlace}
+use Rattle.sofar.specs.declared.State.{State}
+use Rattle.spots.specs.declared.Kind.{Kind}
+use Rattle.notes.specs.declared.note.Met as Code
+use Rattle.notes.specs.Noting.{noteState, notePlace}
 use Rattle.sections.specs.Sections.{Outline, outlineOf, outlined, metFor}
 use Rattle.survey.specs.Sites.{sited, sitedBy, sitesFrom, tokenSites, sitesOf, Stands, AllStand}
-use Rattle.sections.proofs.Noting.{isPart, more-in}
+use Rattle.sections.proofs.Noting.{isPart}
+use Rattle.notes.proofs.Noting.{more-in}
 use Rattle.survey.proofs.Based.{Based, based-behind, tokens-based}
 
 -- ---- one section

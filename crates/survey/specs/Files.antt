@@ -6,7 +6,7 @@ use Rattle.layout.specs.declared.Reply.{Reply}
 use Rattle.tokens.specs.declared.Token.{Token}
 use Rattle.layout.specs.State as St
 use Rattle.layout.specs.Read.{Answer, accepted, refused, endOf}
-use Rattle.judging.specs.declared.judge.State.{State}
+use Rattle.sofar.specs.declared.State.{State}
 
 abbrev pub verdict : Answer → Reply
 verdict (accepted x is) = Reply.Accepted (x .dimension) (x .nodes .total) (x .faces .total) (x .cells .total) (x .zones)

@@ -6,7 +6,7 @@ use Rattle.tokens.specs.Tokens.{classOf, runEnd, runAt, textTo, tokenOf, tokenF
 use Rattle.tokens.specs.Listed.{tokensIn, tokensFrom}
 use Rattle.digits.specs.Digits.{digitOf, digitsIn}
 use Rattle.numbers.specs.Whole.{wholeOf}
-use Rattle.numbers.specs.Coordinate.{signIn, fractionIn, markedOf, powerOf, readingOf, cut, inRange, fitted, keep, coordinateOf}
+use Rattle.decimals.specs.Coordinate.{signIn, fractionIn, markedOf, powerOf, readingOf, cut, inRange, fitted, keep, coordinateOf}
 use Rattle.numbers.specs.Bad.{badAt}
 use Rattle.mesh.specs.Rows.{faceAt, cellAt}
 use Rattle.layout.specs.Reading.{leftOf, rightOf, wordOf, skip, rowsOf}
@@ -18,7 +18,7 @@ use Rattle.records.specs.Laid.{fit, laidIn}
 use Rattle.faults.specs.Over.{each, listed, sumOver}
 use Rattle.faults.specs.Sides.{counted, sidesNaming, countOver}
 use Rattle.faults.specs.Faults
-use Rattle.audit.specs.All.{allFaults}
+use Rattle.faults.specs.All.{allFaults}
 use Rattle.audit.specs.Audit.{totalsFit, countsOf, auditOf}
 use Rattle.vectors.specs.Vectors.{Case, run, wanted, table}
 

@@ -5,8 +5,8 @@ use mathlib.Core.List.{List, [], _∷_}
 use lib.IntN.{pos, negsuc}
 use lib.ListN.{replicate}
 use Rattle.facts.specs.Text.{bytes}
-use Rattle.numbers.specs.declared.decimal.Decimal.{Decimal}
-use Rattle.numbers.specs.Coordinate.{coordinateOf}
+use Rattle.decimals.specs.declared.decimal.Decimal.{Decimal}
+use Rattle.decimals.specs.Coordinate.{coordinateOf}
 use Rattle.mesh.specs.Rows.{places}
 use Rattle.layout.specs.Rows.{Lent, noZone}
 use Rattle.layout.specs.Replies.{Shown, shown}
@@ -36,7 +36,7 @@ abbrev pub auditRead : Shown → Lent → ℕ → Out
 auditRead s l room =
     auditOf places (tables (s .dimension) (s .nodes) (s .faces) (s .cells) (l .faces) (l .cells)) (9 ∷ 9 ∷ []) (replicate room 7)
 
--- by the definitions that the contracts of `reader::read`, `numbers::coordinate` and `audit::audit` use
+-- by the definitions that the contracts of `reader::read`, `coordinates::coordinate` and `audit::audit` use
 abbrev pub run : Case → Answer
 run (file t n k o) = read (outcome (readOf (bytes t) lent))
 run (coordinate t d) = kept (coordinateOf (bytes t))

@@ -2,9 +2,9 @@
 // a line for each, and behind a word what it is as a number of each sort.
 ghost use lib.ListN.{length};
 ghost use Rattle.wordlist.specs.Turn.{Ahead};
+use decimals::Decimal;
 use libc::STDIN_FILENO;
 use libc::STDOUT_FILENO;
-use numbers::Decimal;
 use numbers::Whole;
 use tokens::Cursor;
 use tokens::Token;
@@ -27,7 +27,7 @@ fn put_signed(m: i64) {
     if m < 0 {
         put(b"-");
     }
-    put_number(numbers::magnitude(m));
+    put_number(decimals::magnitude(m));
 }
 
 fn wide(e: i32) -> i64 {
@@ -60,7 +60,7 @@ fn put_word(w: &[u8]) {
     put(b" hex ");
     put_whole(numbers::hexadecimal(w));
     put(b" coordinate ");
-    put_decimal(numbers::coordinate(w));
+    put_decimal(coordinates::coordinate(w));
     put(b"\n");
 }
 

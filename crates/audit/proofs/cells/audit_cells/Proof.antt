@@ -7,7 +7,7 @@ use lib.ListN.{getD}
 use lib.Dec.{lit≤}
 use Rattle.faults.specs.Over.{each}
 use Rattle.faults.specs.Faults.{cellFaultAt, faultsOfCell}
-use Rattle.audit.specs.All.{cellFaults}
+use Rattle.faults.specs.All.{cellFaults}
 use Rattle.audit.proofs.Loop.{Lays, start, turn, done, cell-visited}
 use Rattle.audit.proofs.cells.audit_cells.Statement.{statement}
 use Rattle.audit.proofs.cells.audit_cells.Tie as tie

@@ -10,11 +10,11 @@ use Rattle.mesh.specs.Rows.{places, faceAt}
 use Rattle.faults.specs.Over.{each}
 use Rattle.faults.specs.Faults.{positionsOf, faultAt, faultsOfKind, faultsOfFace}
 use Rattle.faults.proofs.Any.{few-positions}
-use Rattle.audit.specs.All.{faceFaults}
-use Rattle.audit.specs.Steps.{Tallying}
+use Rattle.faults.specs.All.{faceFaults}
+use Rattle.faults.specs.Counts.{Tallying}
 use Rattle.audit.proofs.Loop.{Lays, start, turn, skip, ended, done}
 use Rattle.audit.proofs.Listing.{kindsLeft, bitsLeft, kinds-at, kinds-some, kinds-here, kinds-rest, kinds-empty, bits-some, bits-here, bits-rest, bits-empty, visited-bit}
-use Rattle.audit.proofs.Counting.{tallying-none, tallying-from, tallying-on, tallying-all}
+use Rattle.faults.proofs.Counting.{tallying-none, tallying-from, tallying-on, tallying-all}
 use Rattle.audit.proofs.faces.audit_faces.Statement.{statement}
 use Rattle.audit.proofs.faces.audit_faces.Tie as tie
 

@@ -1,4 +1,4 @@
-use Rattle.heads.specs.Heads.{kindFor, fifthFor}
+use Rattle.spots.specs.Heads.{kindFor, fifthFor}
 use Rattle.bodies.proofs.Shapes.{body-rows, body-bare, body-never}
 use borrow.Author.Needs.{needs}
 use native.Mathlib.Omega.{arith}

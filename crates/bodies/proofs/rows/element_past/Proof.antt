@@ -11,7 +11,7 @@ use Rattle.bodies.proofs.rows.element_past.Reads as reads
 use Rattle.bodies.proofs.rows.element_past.Lts as lts
 use Rattle.bodies.proofs.rows.between.Reads as between-reads
 use Rattle.bodies.proofs.rows.element_by_token.Reads as element-by-token-reads
-use Rattle.steps.proofs.digit_hex.Reads as digit-hex-reads
+use Rattle.quick.proofs.digit_hex.Reads as digit-hex-reads
 
 -- src/rows.rt:164:9
 digit-hex-requires : tie.Need-digit-hex-requires

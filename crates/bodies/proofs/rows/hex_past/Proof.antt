@@ -11,7 +11,7 @@ use Rattle.bodies.proofs.rows.hex_past.Tie as tie
 use Rattle.bodies.proofs.rows.hex_past.Reads as reads
 use Rattle.bodies.proofs.rows.hex_past.Lts as lts
 use Rattle.bodies.proofs.rows.past_of.Reads as past-of-reads
-use Rattle.steps.proofs.quick_hex.Reads as quick-hex-reads
+use Rattle.quick.proofs.quick_hex.Reads as quick-hex-reads
 use Rattle.steps.proofs.number_at.Reads as number-at-reads
 
 -- src/rows.rt:50:9

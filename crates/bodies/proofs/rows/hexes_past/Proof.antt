@@ -6,7 +6,7 @@ use Rattle.bodies.proofs.rows.hexes_past.Statement.{statement}
 use Rattle.bodies.proofs.rows.hexes_past.Tie as tie
 use Rattle.bodies.proofs.rows.hexes_past.Reads as reads
 use Rattle.bodies.proofs.rows.hexes_past.Lts as lts
-use Rattle.bodies.proofs.blocks.blocks_past.Reads as blocks-past-reads
+use Rattle.bodies.proofs.hexes.blocks_past.Reads as blocks-past-reads
 use Rattle.bodies.proofs.rows.words_past.Reads as words-past-reads
 
 -- src/rows.rt:108:9

@@ -10,7 +10,7 @@ use Rattle.bodies.proofs.rows.mixed_past.Lts as lts
 use Rattle.bodies.proofs.rows.between.Reads as between-reads
 use Rattle.bodies.proofs.rows.facing_past.Reads as facing-past-reads
 use Rattle.bodies.proofs.rows.mixed_by_token.Reads as mixed-by-token-reads
-use Rattle.steps.proofs.digit_hex.Reads as digit-hex-reads
+use Rattle.quick.proofs.digit_hex.Reads as digit-hex-reads
 
 -- src/rows.rt:182:9
 digit-hex-requires : tie.Need-digit-hex-requires

@@ -8,7 +8,7 @@ use Rattle.boundary.proofs.calls.ravneket_audit.Tie as tie
 use Rattle.boundary.proofs.calls.ravneket_audit.Reads as reads
 use Rattle.boundary.proofs.calls.ravneket_audit.Lts as lts
 use Rattle.audit.proofs.audit.Reads as audit-reads
-use Rattle.boundary.proofs.answers.answer_audit.Reads as answer-audit-reads
+use Rattle.answers.proofs.answer_audit.Reads as answer-audit-reads
 
 -- src/calls.rt:52:9
 audit-requires : tie.Need-audit-requires

@@ -6,9 +6,9 @@ use Rattle.boundary.proofs.calls.ravneket_read.Statement.{statement}
 use Rattle.boundary.proofs.calls.ravneket_read.Tie as tie
 use Rattle.boundary.proofs.calls.ravneket_read.Reads as reads
 use Rattle.boundary.proofs.calls.ravneket_read.Lts as lts
-use Rattle.boundary.proofs.answers.answer_read.Reads as answer-read-reads
-use Rattle.boundary.proofs.answers.copy_words.Reads as copy-words-reads
-use Rattle.reader.proofs.read_flat.Reads as read-flat-reads
+use Rattle.answers.proofs.answer_read.Reads as answer-read-reads
+use Rattle.answers.proofs.copy_words.Reads as copy-words-reads
+use Rattle.filling.proofs.read_flat.Reads as read-flat-reads
 
 -- src/calls.rt:29:9
 read-flat-requires : tie.Need-read-flat-requires

@@ -1,4 +1,4 @@
-use Rattle.heads.specs.Heads.{kindFor}
+use Rattle.spots.specs.Heads.{kindFor}
 use Rattle.heads.proofs.Headers.{absent-to, fifth-no, fifth-to}
 use borrow.Author.Needs.{needs}
 use native.Mathlib.Omega.{arith}

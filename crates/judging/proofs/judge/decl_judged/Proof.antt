@@ -1,8 +1,8 @@
 use Rattle.layout.specs.declared.Refusal.{Refusal}
 use mathlib.Core.Bool.{not}
 use Rattle.judging.proofs.Judging.{test-is}
-use Rattle.listing.specs.Listing.{agrees}
-use Rattle.heads.specs.Heads.{fifthFor}
+use Rattle.dims.specs.Dims.{agrees}
+use Rattle.spots.specs.Heads.{fifthFor}
 use Rattle.layout.specs.State.{dimListed}
 use mathlib.Core.Path.{_≡_, refl, _∙_, ap}
 use borrow.Author.Needs.{needs}
@@ -12,11 +12,11 @@ use Rattle.judging.proofs.judge.decl_judged.Tie as tie
 use Rattle.judging.proofs.judge.decl_judged.Reads as reads
 use Rattle.judging.proofs.judge.decl_judged.Lts as lts
 use Rattle.judging.proofs.judge.unless.Reads as unless-reads
-use Rattle.listing.proofs.decl_range.Reads as decl-range-reads
-use Rattle.listing.proofs.dim_agrees.Reads as dim-agrees-reads
-use Rattle.listing.proofs.dim_listed.Reads as dim-listed-reads
-use Rattle.listing.proofs.dim_word.Reads as dim-word-reads
-use Rattle.listing.proofs.fits_in.Reads as fits-in-reads
+use Rattle.ranges.proofs.decl_range.Reads as decl-range-reads
+use Rattle.dims.proofs.dim_agrees.Reads as dim-agrees-reads
+use Rattle.dims.proofs.dim_listed.Reads as dim-listed-reads
+use Rattle.dims.proofs.dim_word.Reads as dim-word-reads
+use Rattle.ranges.proofs.fits_in.Reads as fits-in-reads
 
 dim-word-requires : tie.Need-dim-word-requires
 dim-word-requires c κs = search needs

@@ -9,7 +9,7 @@ use Rattle.judging.proofs.judge.part_judged.Reads as reads
 use Rattle.judging.proofs.judge.part_judged.Lts as lts
 use Rattle.judging.proofs.judge.unless.Reads as unless-reads
 use Rattle.judging.proofs.judge.words_judged.Reads as words-judged-reads
-use Rattle.listing.proofs.part_range.Reads as part-range-reads
+use Rattle.ranges.proofs.part_range.Reads as part-range-reads
 
 words-judged-requires : tie.Need-words-judged-requires
 words-judged-requires c κs = search needs

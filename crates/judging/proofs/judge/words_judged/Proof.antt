@@ -1,6 +1,6 @@
 use Rattle.judging.proofs.Judging.{test-is}
-use Rattle.listing.specs.Listing.{agrees, known}
-use Rattle.heads.specs.Heads.{fifthFor}
+use Rattle.dims.specs.Dims.{agrees, known}
+use Rattle.spots.specs.Heads.{fifthFor}
 use Rattle.layout.specs.State.{dimAfter}
 use mathlib.Core.Path.{_≡_, refl, _∙_, ap}
 use borrow.Author.Needs.{needs}
@@ -10,13 +10,13 @@ use Rattle.judging.proofs.judge.words_judged.Tie as tie
 use Rattle.judging.proofs.judge.words_judged.Reads as reads
 use Rattle.judging.proofs.judge.words_judged.Lts as lts
 use Rattle.judging.proofs.judge.unless.Reads as unless-reads
-use Rattle.listing.proofs.dim_after.Reads as dim-after-reads
-use Rattle.listing.proofs.dim_agrees.Reads as dim-agrees-reads
-use Rattle.listing.proofs.dim_known.Reads as dim-known-reads
-use Rattle.listing.proofs.dim_word.Reads as dim-word-reads
+use Rattle.dims.proofs.dim_after.Reads as dim-after-reads
+use Rattle.dims.proofs.dim_agrees.Reads as dim-agrees-reads
+use Rattle.dims.proofs.dim_known.Reads as dim-known-reads
+use Rattle.dims.proofs.dim_word.Reads as dim-word-reads
 use Rattle.listing.proofs.fifth_listed.Reads as fifth-listed-reads
 use Rattle.listing.proofs.type_listed.Reads as type-listed-reads
-use Rattle.listing.proofs.zone_fits.Reads as zone-fits-reads
+use Rattle.ranges.proofs.zone_fits.Reads as zone-fits-reads
 
 dim-word-requires : tie.Need-dim-word-requires
 dim-word-requires c κs = search needs

@@ -47,18 +47,19 @@ use Rattle.layout.specs.Rows.{Lent}
 use Rattle.layout.specs.Read.{Result, outcome, readOf}
 use Rattle.layout.proofs.Reply as R
 use Rattle.layout.proofs.Reply.Laws as R′
-use Rattle.reader.specs.declared.core.Found.{Found}
-use Rattle.reader.specs.Found.{Core, coreOf, Told, told}
+use Rattle.filling.specs.declared.core.Found.{Found}
+use Rattle.filling.specs.Found.{Core, coreOf, Told, told}
 use Rattle.reader.specs.Zones.{filled}
 use Rattle.reader.proofs.Through.{tablesIn, withZones}
 use Rattle.layout.specs.Replies.{shown}
-use Rattle.reader.proofs.Few.{core-few, core-room, told-only, through-is}
-use Rattle.reader.proofs.core.Found as F
-use Rattle.reader.proofs.core.Found.Laws as F′
-use Rattle.reader.proofs.core.read_flat as core
-use Rattle.reader.proofs.core.read_flat.Symbol as core-def
-use Rattle.reader.proofs.core.read_flat.Symbol.{name as #core}
-use Rattle.reader.proofs.core.read_flat.Met as core-thm
+use Rattle.filling.proofs.Few.{core-few, core-room, told-only}
+use Rattle.reader.proofs.Zoned.{through-is}
+use Rattle.filling.proofs.core.Found as F
+use Rattle.filling.proofs.core.Found.Laws as F′
+use Rattle.filling.proofs.read_flat as core
+use Rattle.filling.proofs.read_flat.Symbol as core-def
+use Rattle.filling.proofs.read_flat.Symbol.{name as #core}
+use Rattle.filling.proofs.read_flat.Met as core-thm
 use Rattle.reader.proofs.zones.fill as fill
 use Rattle.reader.proofs.zones.fill.Symbol as fill-def
 use Rattle.reader.proofs.zones.fill.Symbol.{name as #fill}
@@ -353,5 +354,5 @@ read-spec 𝓤 H 𝓜 𝓖 𝓡 =
     entered 𝓤 H (tripleOf 𝓤 H (𝓖 .A) read.signature (read.spec 𝓤 H (𝓖 .A) (𝓜 .mem) (𝓡 .run)))
     (tables 𝓤 H 𝓜 𝓡 code.env .C) (tables 𝓤 H 𝓜 𝓡 code.env .Λ) #read code.function (code.unfolded 𝓤 H 𝓜 𝓡)
     (read-meets 𝓤 H (𝓖 .A) (givenOf 𝓤 H 𝓜 𝓖) (𝓜 .mem) (𝓡 .run) (tablesOf 𝓤 H 𝓜 (tables 𝓤 H 𝓜 𝓡 code.env))
-    (cited 𝓤 H (CoreC 𝓤 H (𝓖 .A) (𝓜 .mem) (𝓡 .run)) 𝓜 𝓡 code.env #core core-def.routine code.calls-reader·core·read-flat (core-thm.met 𝓤 H 𝓜 𝓖 𝓡))
+    (cited 𝓤 H (CoreC 𝓤 H (𝓖 .A) (𝓜 .mem) (𝓡 .run)) 𝓜 𝓡 code.env #core core-def.routine code.calls-filling·read-flat (core-thm.met 𝓤 H 𝓜 𝓖 𝓡))
     (cited 𝓤 H (FillC 𝓤 H (𝓖 .A) (𝓜 .mem) (𝓡 .run)) 𝓜 𝓡 code.env #fill fill-def.routine code.calls-reader·zones·fill (fill-thm.met 𝓤 H 𝓜 𝓖 𝓡)))

@@ -2,7 +2,7 @@ use Rattle.report.proofs.Printing.{part-fits}
 use mathlib.Core.Path.{refl, _∙_}
 use Rattle.audit.specs.Audit.{tables}
 use Rattle.mesh.specs.Rows.{places}
-use Rattle.report.proofs.Printing.{bytes-listed, part-long, part-short, clean-refused, clean-done, faulty-done}
+use Rattle.report.proofs.Printing.{bytes-listed, part-long, clean-refused, clean-done, faulty-done}
 use borrow.Author.Needs.{needs}
 use native.Mathlib.Omega.{arith}
 use borrow.Author.Needs.{needs}
@@ -12,7 +12,7 @@ use Rattle.report.proofs.printed.put_audit.Reads as reads
 use Rattle.report.proofs.printed.put_audit.Lts as lts
 use Rattle.audit.proofs.audit.Reads as audit-reads
 use Rattle.report.proofs.printed.put_clean.Reads as put-clean-reads
-use Rattle.report.proofs.printed.put_total.Reads as put-total-reads
+use Rattle.lines.proofs.put_total.Reads as put-total-reads
 
 -- src/printed.rt:91:9
 slice-aggregate-audit : tie.Need-slice-aggregate-audit
@@ -52,7 +52,7 @@ slice-aggregate-put-total c = let a = c .before .before .before .before .before 
 
 -- src/printed.rt:100:17
 put-total-requires : tie.Need-put-total-requires
-put-total-requires c κs = let a = c .before .before .before .before .before .before .before .before .before .before .before .before .before .before .args in part-short _ _ (bytes-listed _ _ _ _ (c .before .before .before .before .before .before .before .before .audit .ensures) places (tables (a .dim) (a .nodes) (a .faces) (a .cells) (a .face-rows .now) (a .cell-rows .now)) _ refl _ _ (c .before .before .before .before .a .given .1)) (c .before .before .before .before .before .before .before .before .audit .kept .1 .1 .1 .1 .1 .1 .1 .0)
+put-total-requires c κs = search needs
 
 -- src/printed.rt:71:1
 same-length : tie.Need-same-length

@@ -6,7 +6,7 @@ use Rattle.report.proofs.printed.report.Statement.{statement}
 use Rattle.report.proofs.printed.report.Tie as tie
 use Rattle.report.proofs.printed.report.Reads as reads
 use Rattle.report.proofs.printed.report.Lts as lts
-use Rattle.reader.proofs.read_flat.Reads as read-flat-reads
+use Rattle.filling.proofs.read_flat.Reads as read-flat-reads
 use Rattle.report.proofs.printed.put_audit.Reads as put-audit-reads
 use Rattle.report.proofs.printed.put_refusal.Reads as put-refusal-reads
 

@@ -1,5 +1,6 @@
 use Rattle.sections.proofs.Sections.{gate-no, gate-fine}
-use Rattle.judging.specs.Judging.{seenOf, declJudged}
+use Rattle.judging.specs.Judging.{declJudged}
+use Rattle.sofar.specs.Sofar.{seenOf}
 use Rattle.sections.proofs.Sections.{decl-as}
 use borrow.Author.Needs.{needs}
 use native.Mathlib.Omega.{arith}
@@ -8,8 +9,8 @@ use Rattle.sections.proofs.section.decl_at.Tie as tie
 use Rattle.sections.proofs.section.decl_at.Reads as reads
 use Rattle.sections.proofs.section.decl_at.Lts as lts
 use Rattle.judging.proofs.decl_judged.Reads as decl-judged-reads
-use Rattle.judging.proofs.room_of.Reads as room-of-reads
-use Rattle.judging.proofs.seen_of.Reads as seen-of-reads
+use Rattle.sofar.proofs.room_of.Reads as room-of-reads
+use Rattle.sofar.proofs.seen_of.Reads as seen-of-reads
 use Rattle.sections.proofs.section.end_at.Reads as end-at-reads
 
 seen-of-requires : tie.Need-seen-of-requires

@@ -5,7 +5,7 @@ use Rattle.sections.proofs.section.other_at.Statement.{statement}
 use Rattle.sections.proofs.section.other_at.Tie as tie
 use Rattle.sections.proofs.section.other_at.Reads as reads
 use Rattle.sections.proofs.section.other_at.Lts as lts
-use Rattle.heads.proofs.skip_from.Reads as skip-from-reads
+use Rattle.skips.proofs.skip_from.Reads as skip-from-reads
 
 skip-from-requires : tie.Need-skip-from-requires
 skip-from-requires c κs = search needs

@@ -5,10 +5,10 @@ use Rattle.sections.proofs.section.part_at.Statement.{statement}
 use Rattle.sections.proofs.section.part_at.Tie as tie
 use Rattle.sections.proofs.section.part_at.Reads as reads
 use Rattle.sections.proofs.section.part_at.Lts as lts
-use Rattle.judging.proofs.id_of.Reads as id-of-reads
+use Rattle.sofar.proofs.id_of.Reads as id-of-reads
 use Rattle.judging.proofs.part_judged.Reads as part-judged-reads
-use Rattle.judging.proofs.seen_of.Reads as seen-of-reads
-use Rattle.judging.proofs.is_clear.Reads as is-clear-reads
+use Rattle.sofar.proofs.seen_of.Reads as seen-of-reads
+use Rattle.kept.proofs.is_clear.Reads as is-clear-reads
 use Rattle.sections.proofs.section.rows_at.Reads as rows-at-reads
 
 seen-of-requires : tie.Need-seen-of-requires

@@ -1,9 +1,9 @@
-use Rattle.sections.specs.declared.section.Met.{Met}
+use Rattle.notes.specs.declared.note.Met.{Met}
 use Rattle.sections.proofs.Sections.{body-as}
 use Rattle.sections.proofs.Sections.{rows-no, rows-to}
 use Rattle.sections.specs.Sections.{ended}
 use Rattle.bodies.specs.Bodies.{forget}
-use Rattle.heads.specs.Heads.{kindFor, fifthFor}
+use Rattle.spots.specs.Heads.{kindFor, fifthFor}
 use Rattle.layout.specs.Sections.{bodyOf}
 use Rattle.layout.specs.State.{dimAfter}
 use mathlib.Core.Path.{_≡_, _∙_, ap}
@@ -14,9 +14,9 @@ use Rattle.sections.proofs.section.rows_at.Tie as tie
 use Rattle.sections.proofs.section.rows_at.Reads as reads
 use Rattle.sections.proofs.section.rows_at.Lts as lts
 use Rattle.bodies.proofs.body_at.Reads as body-at-reads
-use Rattle.judging.proofs.count_of.Reads as count-of-reads
-use Rattle.listing.proofs.dim_after.Reads as dim-after-reads
-use Rattle.listing.proofs.dim_word.Reads as dim-word-reads
+use Rattle.sofar.proofs.count_of.Reads as count-of-reads
+use Rattle.dims.proofs.dim_after.Reads as dim-after-reads
+use Rattle.dims.proofs.dim_word.Reads as dim-word-reads
 use Rattle.sections.proofs.section.end_at.Reads as end-at-reads
 
 dim-word-requires : tie.Need-dim-word-requires

@@ -7,8 +7,8 @@ use Rattle.sections.proofs.section.two_judged.Tie as tie
 use Rattle.sections.proofs.section.two_judged.Reads as reads
 use Rattle.sections.proofs.section.two_judged.Lts as lts
 use Rattle.judging.proofs.unless.Reads as unless-reads
-use Rattle.listing.proofs.dim_agrees.Reads as dim-agrees-reads
-use Rattle.listing.proofs.dim_listed.Reads as dim-listed-reads
+use Rattle.dims.proofs.dim_agrees.Reads as dim-agrees-reads
+use Rattle.dims.proofs.dim_listed.Reads as dim-listed-reads
 
 dim-agrees-requires : tie.Need-dim-agrees-requires
 dim-agrees-requires c κs = search needs

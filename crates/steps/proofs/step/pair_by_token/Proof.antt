@@ -8,7 +8,7 @@ use Rattle.steps.proofs.step.pair_by_token.Statement.{statement}
 use Rattle.steps.proofs.step.pair_by_token.Tie as tie
 use Rattle.steps.proofs.step.pair_by_token.Reads as reads
 use Rattle.steps.proofs.step.pair_by_token.Lts as lts
-use Rattle.numbers.proofs.coordinate.Reads as coordinate-reads
+use Rattle.coordinates.proofs.coordinate.Reads as coordinate-reads
 use Rattle.numbers.proofs.bad_at.Reads as bad-at-reads
 use Rattle.tokens.proofs.Cursor.token.Reads as token-reads
 

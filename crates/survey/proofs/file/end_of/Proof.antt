@@ -8,7 +8,7 @@ use Rattle.survey.proofs.file.end_of.Reads as reads
 use Rattle.survey.proofs.file.end_of.Lts as lts
 use Rattle.survey.proofs.file.all_three.Reads as all-three-reads
 use Rattle.survey.proofs.file.closing_of.Reads as closing-of-reads
-use Rattle.judging.proofs.is_tiled.Reads as is-tiled-reads
+use Rattle.kept.proofs.is_tiled.Reads as is-tiled-reads
 
 cast-z : tie.Need-cast-z
 cast-z c = search needs

@@ -11,8 +11,8 @@ use Rattle.survey.proofs.file.file_from.Reads as reads
 use Rattle.survey.proofs.file.file_from.Lts as lts
 use Rattle.survey.proofs.file.last_of.Reads as last-of-reads
 use Rattle.survey.proofs.file.refused.Reads as refused-reads
-use Rattle.sections.proofs.keep.Reads as keep-reads
-use Rattle.sections.proofs.noted.Reads as noted-reads
+use Rattle.notes.proofs.keep.Reads as keep-reads
+use Rattle.notes.proofs.noted.Reads as noted-reads
 use Rattle.sections.proofs.section_at.Reads as section-at-reads
 use Rattle.survey.proofs.file.token_at.Reads as token-at-reads
 

@@ -1,0 +1,9 @@
+mod Places
+mod Exponent
+mod Scanning
+mod Kept
+mod Words
+mod Leading
+mod Mildly
+mod Eights
+pub mod Only

@@ -1,0 +1,4 @@
+pub mod Coordinate
+pub mod Lead
+pub mod Value
+pub mod Mild

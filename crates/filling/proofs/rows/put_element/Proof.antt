@@ -1,0 +1,39 @@
+use Rattle.filling.proofs.Rowed.{element-put}
+use borrow.Author.Needs.{needs}
+use native.Mathlib.Omega.{arith}
+use borrow.Author.Needs.{needs}
+use Rattle.filling.proofs.rows.put_element.Statement.{statement}
+use Rattle.filling.proofs.rows.put_element.Tie as tie
+use Rattle.filling.proofs.rows.put_element.Reads as reads
+use Rattle.filling.proofs.rows.put_element.Lts as lts
+use Rattle.mesh.proofs.store.Reads as store-reads
+use Rattle.filling.proofs.words.count_at.Reads as count-at-reads
+
+-- src/rows.rt:104:9
+count-at-requires : tie.Need-count-at-requires
+count-at-requires c κs = search needs
+
+-- src/rows.rt:105:5
+store-requires : tie.Need-store-requires
+store-requires c κs = search needs
+
+-- src/rows.rt:106:16
+add-last : tie.Need-add-last
+add-last c = search needs
+
+-- src/rows.rt:107:5
+store-requires-2 : tie.Need-store-requires-2
+store-requires-2 c κs = search needs
+
+-- src/rows.rt:100:1
+same-length : tie.Need-same-length
+same-length c = search needs
+
+-- src/rows.rt:100:1
+returns : tie.Need-returns
+returns c = let a = c .before .before .before .before .before .before .before .before .before .before .before .args in element-put _ _ _ _ (a .ztype) (a .k) (a .rows .now) _ (c .before .before .before .before .before .before .before .before .count-at .ensures) (c .before .before .before .before .before .before .store .ensures) (c .before .before .store2 .ensures)
+
+pub put-element-spec : {M : Type 1} → statement M
+put-element-spec =
+    tie.close
+    (tie.spec count-at-requires store-requires add-last store-requires-2 same-length returns)

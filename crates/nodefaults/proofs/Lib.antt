@@ -1,0 +1,4 @@
+mod Leaves
+mod OfNodes
+mod Marked
+pub mod Only

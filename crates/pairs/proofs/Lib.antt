@@ -1,0 +1,4 @@
+pub mod Windows
+mod Leading
+mod Going
+pub mod Only

@@ -1,0 +1,4 @@
+mod Leaves
+pub mod OfSides
+mod Marked
+pub mod Only

@@ -1,0 +1,4 @@
+pub mod Stepping
+mod Eights
+mod Shown
+pub mod Alike
