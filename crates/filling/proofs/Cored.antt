@@ -1,7 +1,7 @@
 -- A file that was accepted is a good one for the second pass: its items, their widths, their places, the records so far. So the two passes together are reading. Assumes nothing.
 use Prim.Native.Nat.{ℕ, suc, _+_, _≤_, _<_, zero-le}
 use native.Mathlib.Omega.{arith}
-use native.Mathlib.Nat.{min-eq-left, min-le-right}
+use native.Mathlib.Nat.{min-eq-left}
 use mathlib.Core.Path.{_≡_, refl, sym, _∙_, ap, subst}
 use mathlib.Core.Logic.{_⊎_, inl, inr}
 use mathlib.Core.List.{List, [], _∷_, _++_, append-assoc}
@@ -26,7 +26,8 @@ use Rattle.layout.proofs.Accepts.{laid-of, stated}
 use Rattle.survey.specs.Files.{verdict}
 use Rattle.survey.specs.Sites.{sitesOf, placesOf}
 use Rattle.survey.proofs.Sites.{sites-stand, all-stand}
-use Rattle.filling.specs.Found.{blank, Tables, Core, coordinatesIn, coreBy}
+use Rattle.points.specs.Points.{coordinatesIn}
+use Rattle.filling.specs.Found.{blank, Tables, Core, coreBy}
 use Rattle.filling.specs.Passing.{Fit, AllFit, Tabled, laidFrom, Has, Fills}
 
 -- ---- the items of a file that is laid out
@@ -160,6 +161,3 @@ module _ (room : Room) (s : List ℕ) (t : Tables) (r : Reply) (e : r ≡ verdic
       → (new : Tabled) → Fills s places count width (record { mantissas = t .mantissas; exponents = t .exponents; faces = t .faces; cells = t .cells; list = blank }) new
       → _≡_ {A = Core} (record { found = record { reply = Reply.Accepted d n f c z; zones = count; flat = new .list }; held = record { mantissas = new .mantissas; exponents = new .exponents; faces = new .faces; cells = new .cells } }) (coreBy (answerOf room s) t)
   core-accepted = by-answer (answerOf room s) refl
-
-pub few-coordinates : (d w : ℕ) → w ≡ coordinatesIn d → w ≤ nodeWords
-few-coordinates d w e = subst (λ y. y ≤ nodeWords) (sym e) (min-le-right d nodeWords)

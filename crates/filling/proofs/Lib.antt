@@ -1,10 +1,4 @@
-mod Steps
-pub mod Puts
-mod Rowing
 mod Single
-mod Known
-mod Rowed
-mod Pointed
 mod Mapped
 mod Topped
 mod Passing

@@ -13,9 +13,9 @@ use Rattle.layout.specs.Grammar.{Section, regular}
 use Rattle.layout.specs.Rows.{Table, sameKind, pieceOf}
 use Rattle.layout.specs.Reading.{numberBy}
 use Rattle.layout.proofs.CompleteWords.{number-is}
-use Rattle.filling.specs.Filling.{Steps}
+use Rattle.again.specs.Again.{Steps}
 use Rattle.filling.specs.Passing.{Regular, laidBy, Passes, PassesAt}
-use Rattle.filling.proofs.Steps.{then-is}
+use Rattle.again.proofs.Then.{then-is}
 use Rattle.filling.proofs.Passing.{left-out}
 
 -- ---- a table that another section leaves alone
@@ -34,14 +34,14 @@ id-only face node e = absurd (omega arith)
 id-only face cell e = absurd (omega arith)
 id-only face face e = refl
 
-module _ (s : List ℕ) (at m v : ℕ) (g : Steps s at m (numberBy (length s) sectionIdOf Sort.SectionId (tokensFrom s at)) (λ x. v ≡ x .value)) where
+module _ (s : List ℕ) (at m v : ℕ) (g : Steps s m (numberBy (length s) sectionIdOf Sort.SectionId (tokensFrom s at)) (λ x. v ≡ x .value)) where
   record Named (k : Kind) (h : Header) (b : Body) : Type 0 where
     value : v ≡ idOf k
     regular : Regular k (tokensFrom s m) h b
 
   named : {k : Kind} {h : Header} {b : Body} {us : List Tok} → Section (tokensFrom s at) (part k h b) us → Named k h b
   named (regular {t₁ = t₁} {t₂ = t₂} {t₃ = t₃} k i a z p r) =
-      let y = then-is (λ x us. (v ≡ x .value) × (tokensFrom s m ≡ us)) _ t₁ (number-is (length s) Sort.SectionId i) (g .says) in
+      let y = then-is (λ x us. (v ≡ x .value) × (tokensFrom s m ≡ us)) _ t₁ (number-is (length s) Sort.SectionId i) g in
       record { value = y .0; regular = record { inside = t₂; behind = t₃; heading = rw (y .1) a; body = p } }
 
   module _ (z d : ℕ) (old new : List ℕ) (Q : Item → Type 0) where

@@ -19,9 +19,9 @@ use Rattle.heads.specs.Heads.{headView, HeadAt}
 use Rattle.spots.specs.Heads.{kindFor, fifthFor, headFor}
 use Rattle.sofar.specs.Sofar.{idFor}
 use Rattle.filling.specs.declared.tops.Top.{Top}
-use Rattle.filling.specs.Filling.{Steps}
+use Rattle.again.specs.Again.{Steps}
 use Rattle.filling.specs.Passing.{topOf}
-use Rattle.filling.proofs.Single.{steps-got, steps-bad}
+use Rattle.again.proofs.Then.{steps-got, steps-bad}
 
 pub face-element : (v : Items.Perhaps) → elementIn Items.cell v ≡ elementIn Items.face v
 face-element Items.absent = refl
@@ -45,11 +45,9 @@ module _ (s : List ℕ) (at : ℕ) {g : Got S.Head} {r : Header} (h : HeadAt s a
   abbrev Says : S.Head → Type 0
   Says x = t .zone ≡ zoneOf (kindFor k) (headerOf x)
 
-  pub top-no : (b : Bad) → r ≡ Header.No b → t .next ≡ at → Steps s at (t .next) g Says
-  top-no b q e = subst (λ n. Steps s at n g Says) (sym e) (steps-bad s at Says (b .why) (b .offset) (ap (headView s) (sym q) ∙ h .says))
+  pub top-no : (b : Bad) → r ≡ Header.No b → t .next ≡ at → Steps s (t .next) g Says
+  top-no b q e = subst (λ n. Steps s n g Says) (sym e) (steps-bad s Says at (b .why) (b .offset) (ap (headView s) (sym q) ∙ h .says))
 
-  pub top-read : (x : Head) (n : ℕ) → r ≡ Header.Is x n → t ≡ topOf k x n → Steps s at (t .next) g Says
+  pub top-read : (x : Head) (n : ℕ) → r ≡ Header.Is x n → t ≡ topOf k x n → Steps s (t .next) g Says
   top-read x n q e =
-      let a : (at < n) × (n ≤ length s) = rw q at (h .ahead) in
-      subst (λ m. Steps s at m g Says) (sym (ap (λ (y : Top). y .next) e))
-      (steps-got s at Says (headFor x) n (ap (headView s) (sym q) ∙ h .says) (ap (λ (y : Top). y .zone) e) (omega arith))
+      subst (λ m. Steps s m g Says) (sym (ap (λ (y : Top). y .next) e)) (steps-got s Says (headFor x) n (ap (headView s) (sym q) ∙ h .says) (ap (λ (y : Top). y .zone) e))

@@ -14,7 +14,7 @@ use Rattle.tables.specs.Places.{wordsOf}
 use Rattle.filling.specs.Found.{flatOf}
 use Rattle.survey.specs.Sites.{Stands, AllStand}
 use Rattle.filling.specs.Passing.{AllFit, laidBy, PassesAt, Tabled, laidFrom, Has, Fills}
-use Rattle.filling.proofs.Puts.{sets-behind}
+use Rattle.again.proofs.Puts.{sets-behind}
 
 -- ---- one item, then the rest
 laid-both : {A : Type 0} (p : Piece A) (ps : List (Piece A)) (b : Bool) (old : List A)

@@ -53,10 +53,6 @@ roomWith t n =
       zones = most n;
     }
 
--- no node row has more coordinates
-abbrev pub coordinatesIn : ℕ → ℕ
-coordinatesIn d = min d nodeWords
-
 abbrev pub coreBy : Answer → Tables → Core
 coreBy (accepted x is) t =
     record {

@@ -21,11 +21,11 @@ use Rattle.spots.specs.declared.Kind as Code
 use Rattle.spots.specs.declared.Head.{Head}
 use Rattle.spots.specs.Heads.{kindFor, headFor}
 use Rattle.survey.specs.Sites.{Stands, AllStand}
-use Rattle.filling.specs.declared.rows.Form.{Form}
+use Rattle.rows.specs.declared.row.Form.{Form}
 use Rattle.filling.specs.declared.tops.Top.{Top}
 use Rattle.tables.specs.Places.{wordsOf}
 use Rattle.filling.specs.Found.{flatOf}
-use Rattle.filling.specs.Filling.{Steps}
+use Rattle.again.specs.Again.{Then}
 
 abbrev pub topOf : Code.Kind → Head → ℕ → Top
 topOf k h n = record { zone = zoneOf (kindFor k) (headerOf (headFor h)); next = n }
@@ -35,9 +35,9 @@ abbrev pub faceForm : ℕ → Form
 faceForm e = elim (eqb e 0 || ltb places e) [ true ↦ Form.Mixed | false ↦ Form.Facing e ]
 
 -- a body of n rows, stored from place k on: what is in the table if the section's record is `zone`
-pub record Bodied (s : List ℕ) (at to : ℕ) (t : Table ℕ) (n : ℕ) (zone : Zone) (k : ℕ) (old new : List ℕ) : Type 0 where
+pub record Bodied (s : List ℕ) (at : ℕ) (t : Table ℕ) (n : ℕ) (zone : Zone) (k : ℕ) (old new : List ℕ) : Type 0 where
   pub says : (h : Header) → FifthOf (t .kind) (h .fifth) → zone ≡ zoneOf (t .kind) h
-      → Steps s at to (bodyOf (length s) (t .kind) 0 n (h .fifth) (tokensFrom s at)) (λ b. new ≡ sets old k (joined (t .rows h b)))
+      → Then (bodyOf (length s) (t .kind) 0 n (h .fifth) (tokensFrom s at)) (λ b us. new ≡ sets old k (joined (t .rows h b)))
 
 -- ---- what a good file keeps, as far as this pass needs it: z regular sections come before, nodes have d coordinates
 pub record Fitting (d z : ℕ) (k : Kind) (h : Header) (b : Body) : Type 0 where

@@ -1,9 +1,10 @@
 // The whole reader, with the zone records as numbers: the file is judged, and only then are its rows written.
 ghost use mathlib.Core.Path.{_≡_};
 ghost use Rattle.layout.specs.Replies.{shown};
-ghost use Rattle.filling.specs.Found.{Tables, Told, told, coordinatesIn, coreOf};
+ghost use Rattle.filling.specs.Found.{Tables, Told, told, coreOf};
 use super::fill::fill_tables;
 use layout::Reply;
+use points::coordinates_in;
 use tables::room_for;
 
 // The answer, the number of zone records, and the records: section id, zone, first, last, type, element of each, one behind the other.
@@ -11,12 +12,6 @@ pub struct Found {
     pub reply: Reply,
     pub zones: usize,
     pub flat: [u32; 384],
-}
-
-fn coordinates_in(dim: u32) -> u32
-    ensures { λ r. ⌜ r ≡ coordinatesIn dim ⌝ }
-{
-    if dim < 3 { dim } else { 3 }
 }
 
 // Reads a file into lent tables, with room for so many zone records.

@@ -1,9 +1,7 @@
 // The second pass: the tables that are lent, filled from a file that is judged first.
 mod core;
 mod fill;
-mod nodes;
 mod parts;
-mod rows;
 mod tops;
 mod words;
 

@@ -1,6 +1,6 @@
 // One regular section of a file that is known to be good: its rows go to their table, its record to the list.
 ghost use mathlib.Core.Path.{_≡_};
-ghost use Prim.Native.Nat.{_^_, _≤_};
+ghost use Prim.Native.Nat.{_≤_};
 ghost use mathlib.Core.Bool.{_||_};
 ghost use lib.Dec.{eqb, ltb};
 ghost use Rattle.mesh.specs.Rows.{nodeWords, places};
@@ -8,14 +8,15 @@ ghost use Rattle.sizes.specs.Sizes.{zones};
 ghost use Rattle.layout.specs.Items.{node, cell, face};
 ghost use Rattle.layout.specs.Rows.{mantissaTable, exponentTable, faceTable, cellTable};
 ghost use Rattle.filling.specs.Passing.{faceForm, Bodied, Passes, PassesAny, PassesAt, laidBy};
-use super::nodes::put_nodes;
-use super::rows::Form;
-use super::rows::put_body;
-use super::rows::put_same;
 use super::tops::top_at;
+use super::words::past_left;
 use super::words::value_at;
 use mesh::Zone;
 use numbers::Sort;
+use points::put_points;
+use rows::Form;
+use rows::put_rows;
+use rows::put_same;
 use sofar::count_of;
 use spots::Kind;
 use tables::put_record;
@@ -41,21 +42,22 @@ fn nodes_into(
     let before = rows_before(zone.first);
     let n = count_of(zone.first, zone.last);
     let k = 3 * before;
-    put_nodes(s, body, d, n, mantissas, exponents, k);
+    let inside = past_left(s, body);
+    put_points(s, inside, d, n, mantissas, exponents, k);
 }
 
 // The rows of a cell section: one element for each cell, or the same for all.
-fn put_cells(s: &[u8], at: usize, zone: Zone, n: u32, cells: &mut [u32], k: usize) -> usize
-    requires { ⌜ k ≤ 2 ^ 36 ⌝ }
-    ensures { λ r. ⌜ Bodied (now (s .entry)) at r cellTable n zone k (now (cells .entry)) (now (cells .exit)) ⌝ }
+fn put_cells(s: &[u8], at: usize, zone: Zone, n: u32, cells: &mut [u32], k: usize)
+    ensures { λ _. ⌜ Bodied (now (s .entry)) at cellTable n zone k (now (cells .entry)) (now (cells .exit)) ⌝ }
 {
     let element = zone.element;
     let ztype = zone.ztype;
     if element == 0 {
-        return put_body(s, at, Form::Element, ztype, n, cells, k);
+        let inside = past_left(s, at);
+        put_rows(s, inside, Form::Element, ztype, n, cells, k);
+        return;
     }
     put_same(element, ztype, n, cells, k);
-    at
 }
 
 fn cells_into(s: &[u8], at: usize, z: usize, cells: &mut [u32], list: &mut [u32])
@@ -90,13 +92,13 @@ fn face_form(element: u32) -> Form
     }
 }
 
-fn put_faces(s: &[u8], at: usize, zone: Zone, n: u32, faces: &mut [u32], k: usize) -> usize
-    requires { ⌜ k ≤ 2 ^ 36 ⌝ }
-    ensures { λ r. ⌜ Bodied (now (s .entry)) at r faceTable n zone k (now (faces .entry)) (now (faces .exit)) ⌝ }
+fn put_faces(s: &[u8], at: usize, zone: Zone, n: u32, faces: &mut [u32], k: usize)
+    ensures { λ _. ⌜ Bodied (now (s .entry)) at faceTable n zone k (now (faces .entry)) (now (faces .exit)) ⌝ }
 {
     let form = face_form(zone.element);
     let ztype = zone.ztype;
-    put_body(s, at, form, ztype, n, faces, k)
+    let inside = past_left(s, at);
+    put_rows(s, inside, form, ztype, n, faces, k);
 }
 
 fn faces_into(s: &[u8], at: usize, z: usize, faces: &mut [u32], list: &mut [u32])

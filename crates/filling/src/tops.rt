@@ -6,7 +6,7 @@ ghost use Rattle.layout.specs.Items.{cell};
 ghost use Rattle.layout.specs.Rows.{elementIn, zoneOf};
 ghost use Rattle.layout.specs.Sections.{headerOf, headOf};
 ghost use Rattle.spots.specs.Heads.{kindFor, fifthFor};
-ghost use Rattle.filling.specs.Filling.{Steps};
+ghost use Rattle.again.specs.Again.{Steps};
 ghost use Rattle.filling.specs.Passing.{topOf};
 use heads::Header;
 use mesh::Zone;
@@ -81,7 +81,7 @@ fn no_top(next: usize) -> Top
 }
 
 pub(crate) fn top_at(s: &[u8], at: usize, kind: Kind) -> Top
-    ensures { λ r. ⌜ Steps (now (s .entry)) at (r .next) (headOf (length (now (s .entry))) (kindFor kind) (tokensFrom (now (s .entry)) at)) (λ h. r .zone ≡ zoneOf (kindFor kind) (headerOf h)) ⌝ }
+    ensures { λ r. ⌜ Steps (now (s .entry)) (r .next) (headOf (length (now (s .entry))) (kindFor kind) (tokensFrom (now (s .entry)) at)) (λ h. r .zone ≡ zoneOf (kindFor kind) (headerOf h)) ⌝ }
 {
     let header = heads::head_at(s, at, kind);
     match header {

@@ -2,5 +2,6 @@ pub mod Ending
 pub mod Figures
 pub mod Near
 pub mod Knowing
+pub mod Alone
 pub mod Twice
 pub mod Only

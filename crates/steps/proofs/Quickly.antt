@@ -26,6 +26,7 @@ use Rattle.decimals.proofs.Led.{lead-is, lead-next, lead-parts}
 use Rattle.numbers.proofs.AtOnce.{hexes-worded, digit-high}
 use Rattle.quick.specs.declared.words.Quick.{Quick}
 use Rattle.quick.specs.Quick.{quickOf}
+use Rattle.quick.proofs.Alone.{isQuick, valueOf, nextOf}
 use Rattle.pairs.specs.declared.leads.Leads.{Leads}
 use Rattle.pairs.specs.Pairs.{window, leadsBy, leadsOf}
 use Rattle.pairs.proofs.Windows.{word-bytes, word-here}
@@ -36,18 +37,6 @@ use Rattle.steps.specs.Views.{NumAt, PairAt, wholeFor}
 use Rattle.steps.proofs.Taken.{number-is, pair-is}
 
 -- ---- what is found is the number there
-abbrev pub isQuick : Quick → Bool
-isQuick (Quick.Is v n) = true
-isQuick Quick.Not = false
-
-abbrev pub valueOf : Quick → ℕ
-valueOf (Quick.Is v n) = v
-valueOf Quick.Not = 0
-
-abbrev pub nextOf : Quick → ℕ
-nextOf (Quick.Is v n) = n
-nextOf Quick.Not = 0
-
 module _ (s : List ℕ) (at : ℕ) where
   abbrev found : Hexes
   found = hexesOf (window s at 8)

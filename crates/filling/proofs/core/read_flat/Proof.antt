@@ -5,7 +5,8 @@ use Rattle.sofar.specs.declared.Room.{Room}
 use Rattle.sections.specs.Sections.{roomAll}
 use Rattle.survey.specs.Files.{verdict}
 use Rattle.survey.specs.Sites.{placesOf}
-use Rattle.filling.proofs.Cored.{few-coordinates, few-accepted, core-refused, core-accepted}
+use Rattle.points.proofs.Good.{few-coordinates}
+use Rattle.filling.proofs.Cored.{few-accepted, core-refused, core-accepted}
 use Rattle.filling.specs.Found.{roomWith, told, coreOf}
 use borrow.Author.Needs.{needs}
 use native.Mathlib.Omega.{arith}
@@ -13,7 +14,7 @@ use Rattle.filling.proofs.core.read_flat.Statement.{statement}
 use Rattle.filling.proofs.core.read_flat.Tie as tie
 use Rattle.filling.proofs.core.read_flat.Reads as reads
 use Rattle.filling.proofs.core.read_flat.Lts as lts
-use Rattle.filling.proofs.core.coordinates_in.Reads as coordinates-in-reads
+use Rattle.points.proofs.coordinates_in.Reads as coordinates-in-reads
 use Rattle.filling.proofs.fill.fill_tables.Reads as fill-tables-reads
 use Rattle.survey.proofs.locate.Reads as locate-reads
 use Rattle.tables.proofs.room_for.Reads as room-for-reads

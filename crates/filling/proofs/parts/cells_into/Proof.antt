@@ -2,7 +2,7 @@ use mathlib.Core.Path.{_≡_, refl}
 use lib.Seq.{sets}
 use Rattle.layout.specs.Rows.{cellTable, cellRows, joined}
 use Rattle.layout.specs.Items.{cell}
-use Rattle.filling.proofs.Passing.{passes-filled, rows-put, steps-any, cell-node}
+use Rattle.filling.proofs.Passing.{passes-filled, rows-put, then-any, cell-node}
 use borrow.Author.Needs.{needs}
 use native.Mathlib.Omega.{arith}
 use Rattle.filling.proofs.parts.cells_into.Statement.{statement}
@@ -40,7 +40,7 @@ same-length-2 : tie.Need-same-length-2
 same-length-2 c = search needs
 
 returns : tie.Need-returns
-returns c = let a = c .before .before .before .before .before .before .before .before .before .before .before .before .before .before .before .args in let t = c .before .before .before .before .before .before .before .before .before .before .before .top-at .result in λ d. passes-filled _ _ _ _ cell t (c .before .before .before .before .before .before .before .before .before .before .before .top-at .ensures) _ _ _ _ (λ h b. _ ≡ sets (a .cells .now) _ (joined (cellRows h b))) _ (c .before .before .before .before .count-of .ensures) (c .before .before .before .before .before .before .before .before .put-record .ensures) (λ h f w. steps-any _ _ _ d _ cell (h .fifth) _ cell-node (c .before .before .put-cells .ensures .says h f w)) (λ h b w y. rows-put cellTable h b (t .zone) _ _ (a .cells .now) _ w (c .before .before .before .before .before .rows-before .ensures) refl y)
+returns c = let a = c .before .before .before .before .before .before .before .before .before .before .before .before .before .before .before .args in let t = c .before .before .before .before .before .before .before .before .before .before .before .top-at .result in λ d. passes-filled _ _ _ _ cell t (c .before .before .before .before .before .before .before .before .before .before .before .top-at .ensures) _ _ _ (λ h b. _ ≡ sets (a .cells .now) _ (joined (cellRows h b))) _ (c .before .before .before .before .count-of .ensures) (c .before .before .before .before .before .before .before .before .put-record .ensures) (λ h f w. then-any _ d _ cell (h .fifth) _ _ cell-node (c .before .before .put-cells .ensures .says h f w)) (λ h b w y. rows-put cellTable h b (t .zone) _ _ (a .cells .now) _ w (c .before .before .before .before .before .rows-before .ensures) refl y)
 
 pub cells-into-spec : {M : Type 1} → statement M
 cells-into-spec =

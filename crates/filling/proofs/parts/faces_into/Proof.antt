@@ -2,7 +2,7 @@ use mathlib.Core.Path.{_≡_, refl}
 use lib.Seq.{sets}
 use Rattle.layout.specs.Rows.{faceTable, faceRows, joined}
 use Rattle.layout.specs.Items.{face}
-use Rattle.filling.proofs.Passing.{passes-filled, rows-put, steps-any, face-node}
+use Rattle.filling.proofs.Passing.{passes-filled, rows-put, then-any, face-node}
 use borrow.Author.Needs.{needs}
 use native.Mathlib.Omega.{arith}
 use Rattle.filling.proofs.parts.faces_into.Statement.{statement}
@@ -40,7 +40,7 @@ same-length-2 : tie.Need-same-length-2
 same-length-2 c = search needs
 
 returns : tie.Need-returns
-returns c = let a = c .before .before .before .before .before .before .before .before .before .before .before .before .before .before .before .args in let t = c .before .before .before .before .before .before .before .before .before .before .before .top-at .result in λ d. passes-filled _ _ _ _ face t (c .before .before .before .before .before .before .before .before .before .before .before .top-at .ensures) _ _ _ _ (λ h b. _ ≡ sets (a .faces .now) _ (joined (faceRows h b))) _ (c .before .before .before .before .count-of .ensures) (c .before .before .before .before .before .before .before .before .put-record .ensures) (λ h f w. steps-any _ _ _ d _ face (h .fifth) _ face-node (c .before .before .put-faces .ensures .says h f w)) (λ h b w y. rows-put faceTable h b (t .zone) _ _ (a .faces .now) _ w (c .before .before .before .before .before .rows-before .ensures) refl y)
+returns c = let a = c .before .before .before .before .before .before .before .before .before .before .before .before .before .before .before .args in let t = c .before .before .before .before .before .before .before .before .before .before .before .top-at .result in λ d. passes-filled _ _ _ _ face t (c .before .before .before .before .before .before .before .before .before .before .before .top-at .ensures) _ _ _ (λ h b. _ ≡ sets (a .faces .now) _ (joined (faceRows h b))) _ (c .before .before .before .before .count-of .ensures) (c .before .before .before .before .before .before .before .before .put-record .ensures) (λ h f w. then-any _ d _ face (h .fifth) _ _ face-node (c .before .before .put-faces .ensures .says h f w)) (λ h b w y. rows-put faceTable h b (t .zone) _ _ (a .faces .now) _ w (c .before .before .before .before .before .rows-before .ensures) refl y)
 
 pub faces-into-spec : {M : Type 1} → statement M
 faces-into-spec =

@@ -1,3 +1,4 @@
+use Prim.Native.Nat.{_*_}
 use mathlib.Core.Path.{_≡_, refl}
 use lib.Seq.{sets}
 use Rattle.layout.specs.Rows.{mantissaTable, exponentTable, nodeRows, joined}
@@ -9,11 +10,12 @@ use Rattle.filling.proofs.parts.nodes_into.Statement.{statement}
 use Rattle.filling.proofs.parts.nodes_into.Tie as tie
 use Rattle.filling.proofs.parts.nodes_into.Reads as reads
 use Rattle.filling.proofs.parts.nodes_into.Lts as lts
+use Rattle.filling.proofs.tops.top_at.Reads as top-at-reads
+use Rattle.filling.proofs.words.past_left.Reads as past-left-reads
+use Rattle.points.proofs.put_points.Reads as put-points-reads
 use Rattle.sofar.proofs.count_of.Reads as count-of-reads
-use Rattle.filling.proofs.nodes.put_nodes.Reads as put-nodes-reads
 use Rattle.tables.proofs.put_record.Reads as put-record-reads
 use Rattle.tables.proofs.rows_before.Reads as rows-before-reads
-use Rattle.filling.proofs.tops.top_at.Reads as top-at-reads
 
 top-at-requires : tie.Need-top-at-requires
 top-at-requires c κs = search needs
@@ -30,8 +32,11 @@ count-of-requires c κs = search needs
 mul-k : tie.Need-mul-k
 mul-k c = search needs
 
-put-nodes-requires : tie.Need-put-nodes-requires
-put-nodes-requires c κs = search needs
+past-left-requires : tie.Need-past-left-requires
+past-left-requires c κs = search needs
+
+put-points-requires : tie.Need-put-points-requires
+put-points-requires c κs = search needs
 
 same-length : tie.Need-same-length
 same-length c = search needs
@@ -43,7 +48,7 @@ same-length-3 : tie.Need-same-length-3
 same-length-3 c = search needs
 
 returns : tie.Need-returns
-returns c = let a = c .before .before .before .before .before .before .before .before .before .before .before .before .before .before .before .args in let t = c .before .before .before .before .before .before .before .before .before .before .before .before .top-at .result in let p = c .before .before .before .before .before .before .rows-before .ensures in passes-filled _ _ _ _ node t (c .before .before .before .before .before .before .before .before .before .before .before .before .top-at .ensures) _ _ _ _ (λ h b. (_ ≡ sets (a .mantissas .now) _ (joined (nodeRows (λ y. y .mantissa) h b))) × (_ ≡ sets (a .exponents .now) _ (joined (nodeRows (λ y. y .exponent) h b)))) _ (c .before .before .before .before .before .count-of .ensures) (c .before .before .before .before .before .before .before .before .before .put-record .ensures) (λ h f w. nodes-body _ _ _ _ _ _ (h .fifth) h _ _ (c .before .before .put-nodes .ensures)) (λ h b w y. (rows-put mantissaTable h b (t .zone) _ _ (a .mantissas .now) _ w p refl (y .0), rows-put exponentTable h b (t .zone) _ _ (a .exponents .now) _ w p refl (y .1)))
+returns c = let a = c .before .before .before .before .before .before .before .before .before .before .before .before .before .before .before .before .args in let t = c .before .before .before .before .before .before .before .before .before .before .before .before .before .top-at .result in let p = c .before .before .before .before .before .before .before .rows-before .ensures in passes-filled _ _ _ _ node t (c .before .before .before .before .before .before .before .before .before .before .before .before .before .top-at .ensures) _ _ _ (λ h b. (_ ≡ sets (a .mantissas .now) _ (joined (nodeRows (λ y. y .mantissa) h b))) × (_ ≡ sets (a .exponents .now) _ (joined (nodeRows (λ y. y .exponent) h b)))) _ (c .before .before .before .before .before .before .count-of .ensures) (c .before .before .before .before .before .before .before .before .before .before .put-record .ensures) (λ h f w. nodes-body (a .s .now) (t .next) (c .before .before .before .before .before .past-left .result) (a .d) (c .before .before .before .before .before .before .count-of .result) (3 * c .before .before .before .before .before .before .before .rows-before .result) (h .fifth) h (record { mantissas = a .mantissas .now; exponents = a .exponents .now }) _ (c .before .before .before .before .before .before .before .before .before .before .before .before .before .before .before .before .pre .0) (c .before .before .before .before .before .past-left .ensures) (c .before .before .put-points .ensures)) (λ h b w y. (rows-put mantissaTable h b (t .zone) _ _ (a .mantissas .now) _ w p refl (y .0), rows-put exponentTable h b (t .zone) _ _ (a .exponents .now) _ w p refl (y .1)))
 
 pub nodes-into-spec : {M : Type 1} → statement M
 nodes-into-spec =
@@ -54,7 +59,8 @@ nodes-into-spec =
     rows-before-requires
     count-of-requires
     mul-k
-    put-nodes-requires
+    past-left-requires
+    put-points-requires
     same-length
     same-length-2
     same-length-3

@@ -1,0 +1,3 @@
+pub mod Then
+pub mod Puts
+pub mod Many

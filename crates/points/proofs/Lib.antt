@@ -1,0 +1,3 @@
+mod Pointed
+pub mod Good
+pub mod Only

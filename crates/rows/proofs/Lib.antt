@@ -1,0 +1,4 @@
+mod Wording
+mod Rowed
+pub mod Good
+pub mod Only
