@@ -13,12 +13,12 @@ use Rattle.layout.specs.Replies.{shown}
 use Rattle.layout.specs.Read.{Answer, Result, accepted, refused, answerOf, readOf}
 use Rattle.layout.proofs.Exactly.{zones-length}
 use Rattle.filling.specs.Found.{Tables, Core, told, flatOf, blank, roomWith, coreBy, coreOf}
-use Rattle.reader.specs.Zones.{filled}
+use Rattle.filling.specs.Zones.{filled}
 use Rattle.filling.proofs.Cored.{zones-are}
 use Rattle.filling.proofs.Few.{told-only, core-few, core-room}
-use Rattle.reader.proofs.Zoned.{flat-length, filled-zones}
-use Rattle.reader.proofs.Through.{withZones}
-use Rattle.reader.proofs.Called.{flat-is-read}
+use Rattle.filling.proofs.Zoned.{flat-length, filled-zones}
+use Rattle.filling.proofs.Through.{withZones}
+use Rattle.filling.proofs.Zoned.{flat-is-read}
 use Rattle.answers.specs.Words.{readWords}
 use Rattle.boundary.specs.Flat.{Left, withList, leftBy, readLeft}
 

@@ -26,7 +26,7 @@ pub extern "C" fn ravneket_read(
     ensures { λ r. ⌜ _≡_ {A = Left} (record { number = r; answer = now (answer .exit); held = record { mantissas = now (mantissas .exit); exponents = now (exponents .exit); faces = now (faces .exit); cells = now (cells .exit) }; zones = now (zones .exit) }) (readLeft (now (text .entry)) (record { mantissas = now (mantissas .entry); exponents = now (exponents .entry); faces = now (faces .entry); cells = now (cells .entry) }) (now (zones .entry)) (now (answer .entry))) ⌝ }
 {
     let room = zones.len() / ZONE_WORDS;
-    let found = reader::read_flat(text, mantissas, exponents, faces, cells, room);
+    let found = filling::read_flat(text, mantissas, exponents, faces, cells, room);
     let flat = found.flat;
     let used = ZONE_WORDS * found.zones;
     copy_words(&flat[..used], zones);

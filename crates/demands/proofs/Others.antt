@@ -18,9 +18,9 @@ use Rattle.layout.specs.Read.{Result, readOf}
 use Rattle.layout.proofs.Refusals.{refusal-points}
 use Rattle.layout.proofs.Shown.{shown-only}
 use Rattle.filling.specs.Found.{Tables, Core, Told, told, coreOf}
-use Rattle.reader.proofs.Through.{tablesIn, withZones}
+use Rattle.filling.proofs.Through.{tablesIn, withZones}
 use Rattle.filling.proofs.Only.{read-flat-only}
-use Rattle.reader.proofs.Called.{flat-is-read}
+use Rattle.filling.proofs.Zoned.{flat-is-read}
 use Rattle.filling.proofs.read_flat as flat
 use Rattle.filling.proofs.read_flat.Reads as flats
 use Rattle.survey.proofs.Only.{survey-only, locate-only}

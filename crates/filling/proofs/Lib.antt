@@ -6,4 +6,6 @@ mod Sectioned
 mod Whole
 pub mod Cored
 pub mod Few
+pub mod Through
+pub mod Zoned
 pub mod Only

@@ -43,7 +43,7 @@ fn judge(
     cells: &mut [u32],
     room: usize,
 ) {
-    let found = reader::read_flat(text, mantissas, exponents, faces, cells, room);
+    let found = filling::read_flat(text, mantissas, exponents, faces, cells, room);
     let reply = found.reply;
     let zones = found.zones;
     let flat = found.flat;

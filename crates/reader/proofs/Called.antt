@@ -18,9 +18,6 @@ use Rattle.layout.specs.Read.{Result, readOf}
 use Rattle.layout.proofs.Exactly.{acceptedAs, readOf-exactly, one-mesh}
 use Rattle.layout.proofs.Refusals.{refusal-points}
 use Rattle.layout.proofs.Shown.{outcome-only}
-use Rattle.filling.specs.Found.{Tables, Core, coreOf}
-use Rattle.reader.proofs.Through.{withZones}
-use Rattle.reader.proofs.Zoned.{through-is}
 use Rattle.reader.proofs.Only.{leaves, takes, Post}
 use Rattle.reader.proofs.lent.read as read
 
@@ -45,9 +42,3 @@ module _ (κ : Lfts 6) (a : Args read.signature κ) (r : Res read.signature κ) 
   read-refused w k o q =
       let h = refusal-points (now (a .0)) (takes κ a) w k o (sym (ap (λ (y : Result). y .reply) answered-is) ∙ q) in
       (h .0, ap (λ (y : Result). y .held) answered-is ∙ h .1)
-
--- ---- read_flat: with its records laid into any list of that length it is reading
-pub flat-is-read : (s : List ℕ) (n : ℕ) (t : Tables) (c : Core) → c ≡ coreOf s n t → (zs : List Zone) → length zs ≡ n
-    → withZones c zs ≡ readOf s (record { mantissas = t .mantissas; exponents = t .exponents; faces = t .faces; cells = t .cells; zones = zs })
-flat-is-read s n t c e zs q =
-    ap (λ y. withZones y zs) (e ∙ ap (λ m. coreOf s m t) (sym q)) ∙ through-is s (record { mantissas = t .mantissas; exponents = t .exponents; faces = t .faces; cells = t .cells; zones = zs })

@@ -5,7 +5,7 @@ use mathlib.Core.Path.{_≡_, refl, ap, _∙_}
 use mathlib.Core.List.{List}
 use lib.ListN.{length, set, length-set}
 use Rattle.mesh.specs.declared.Zone.{Zone}
-use Rattle.reader.specs.Zones.{zoneAt, filled}
+use Rattle.filling.specs.Zones.{zoneAt, filled}
 
 pub filled-next : (t : List ℕ) (i : ℕ) (zs : List Zone) → filled t (i + 1) zs ≡ set (filled t i zs) i (zoneAt t i)
 unfolding filled

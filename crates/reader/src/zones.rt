@@ -2,7 +2,7 @@
 ghost use mathlib.Core.Path.{_≡_};
 ghost use Prim.Native.Nat.{_<_, _≤_};
 ghost use lib.ListN.{length};
-ghost use Rattle.reader.specs.Zones.{zoneAt, filled};
+ghost use Rattle.filling.specs.Zones.{zoneAt, filled};
 use mesh::Zone;
 
 // The record at i, six words a record.

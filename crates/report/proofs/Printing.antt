@@ -27,9 +27,9 @@ use Rattle.faults.specs.All.{allFaults}
 use Rattle.audit.specs.Audit.{tables, Out, out, valuesOf, isDimension, totalsFit, countsFit, auditOf}
 use Rattle.filling.specs.Found as Found
 use Rattle.filling.specs.Found.{Core, told, coreOf}
-use Rattle.reader.proofs.Through.{withZones}
+use Rattle.filling.proofs.Through.{withZones}
 use Rattle.filling.proofs.Few.{told-only}
-use Rattle.reader.proofs.Called.{flat-is-read}
+use Rattle.filling.proofs.Zoned.{flat-is-read}
 use Rattle.lines.specs.Writing.{Wrote, line}
 use Rattle.lines.specs.Listed.{faultLines}
 use Rattle.report.specs.Report.{lent, audited, reported, reportOf}

@@ -75,7 +75,7 @@ pub fn report(text: &[u8], out: &mut [u8]) -> usize
     let mut exponents: [i32; 3072] = [0; 3072];
     let mut faces: [u32; 8192] = [0; 8192];
     let mut cells: [u32; 2048] = [0; 2048];
-    let found = reader::read_flat(
+    let found = filling::read_flat(
         text,
         &mut mantissas,
         &mut exponents,

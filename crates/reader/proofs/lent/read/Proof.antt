@@ -49,11 +49,11 @@ use Rattle.layout.proofs.Reply as R
 use Rattle.layout.proofs.Reply.Laws as R′
 use Rattle.filling.specs.declared.core.Found.{Found}
 use Rattle.filling.specs.Found.{Core, coreOf, Told, told}
-use Rattle.reader.specs.Zones.{filled}
-use Rattle.reader.proofs.Through.{tablesIn, withZones}
+use Rattle.filling.specs.Zones.{filled}
+use Rattle.filling.proofs.Through.{tablesIn, withZones}
 use Rattle.layout.specs.Replies.{shown}
 use Rattle.filling.proofs.Few.{core-few, core-room, told-only}
-use Rattle.reader.proofs.Zoned.{through-is}
+use Rattle.filling.proofs.Zoned.{through-is}
 use Rattle.filling.proofs.core.Found as F
 use Rattle.filling.proofs.core.Found.Laws as F′
 use Rattle.filling.proofs.read_flat as core

@@ -48,7 +48,7 @@ use denote.Triple.Clauses.{ensured, lasts}
 use denote.Triple.Walked.{says, needs, Stays, stay-slice, stay-none, walkOf, goes-slice, goes-none, Walks, ends-at, walked, walk-meets}
 use denote.Exit.{yes}
 use Rattle.mesh.specs.declared.Zone.{Zone}
-use Rattle.reader.specs.Zones.{zoneAt, filled}
+use Rattle.filling.specs.Zones.{zoneAt, filled}
 use Rattle.reader.proofs.Filled.{filled-next, filled-length}
 use Rattle.mesh.proofs.Zone as T
 use Rattle.mesh.proofs.Zone.Laws as T′

@@ -5,8 +5,8 @@ use lib.ListN.{length}
 use Rattle.mesh.specs.declared.Zone.{Zone}
 use Rattle.layout.specs.Read.{Result}
 use Rattle.layout.specs.Rows.{Lent}
 use Rattle.filling.specs.Found.{Tables, Core, coreOf}
-use Rattle.reader.specs.Zones.{filled}
+use Rattle.filling.specs.Zones.{filled}
 
 abbrev pub tablesIn : Lent → Tables
 tablesIn l = record { mantissas = l .mantissas; exponents = l .exponents; faces = l .faces; cells = l .cells }

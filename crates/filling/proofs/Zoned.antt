@@ -14,11 +14,11 @@ use Rattle.layout.specs.State.{State}
 use Rattle.layout.specs.Read.{Result, Answer, accepted, refused, answerOf, lay, resultOf, readOf}
 use Rattle.layout.proofs.Exactly.{zones-length}
 use Rattle.tables.specs.Places.{wordsOf}
-use Rattle.filling.specs.Found.{flatOf, blank, coreBy, coreOf}
+use Rattle.filling.specs.Found.{Tables, Core, flatOf, blank, coreBy, coreOf}
 use Rattle.facts.proofs.Sets.{sets-append}
 use Rattle.filling.proofs.Cored.{zones-are, few-zones}
-use Rattle.reader.proofs.Through.{tablesIn, withZones, throughCore}
-use Rattle.reader.specs.Zones.{zoneAt, filled}
+use Rattle.filling.proofs.Through.{tablesIn, withZones, throughCore}
+use Rattle.filling.specs.Zones.{zoneAt, filled}
 
 pub flat-length : (zs : List Zone) → length (flatOf zs) ≡ length zs * 6
 flat-length [] = refl
@@ -94,3 +94,9 @@ module _ (s : List ℕ) (l : Lent) where
   pub through-is : throughCore s l ≡ readOf s l
   unfolding coreOf readOf
   through-is = through-by (answerOf (roomOf l) s) refl
+
+-- `read_flat`: with its records laid into any list of that length it is reading
+pub flat-is-read : (s : List ℕ) (n : ℕ) (t : Tables) (c : Core) → c ≡ coreOf s n t → (zs : List Zone) → length zs ≡ n
+    → withZones c zs ≡ readOf s (record { mantissas = t .mantissas; exponents = t .exponents; faces = t .faces; cells = t .cells; zones = zs })
+flat-is-read s n t c e zs q =
+    ap (λ y. withZones y zs) (e ∙ ap (λ m. coreOf s m t) (sym q)) ∙ through-is s (record { mantissas = t .mantissas; exponents = t .exponents; faces = t .faces; cells = t .cells; zones = zs })
