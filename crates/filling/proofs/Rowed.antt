@@ -19,8 +19,8 @@ use Rattle.facts.proofs.Decides.{and-is, le-is}
 use Rattle.filling.specs.declared.rows.Form.{Form}
 use Rattle.filling.specs.Filling.{Then, Steps, TwoLeft, mapped, rowRead, Placed, widthOf}
 use Rattle.layout.proofs.Formed.{pad-length}
-use Rattle.quick.specs.declared.twos.Two.{Two}
-use Rattle.quick.specs.Twos.{TwoSays}
+use Rattle.twos.specs.declared.Two.{Two}
+use Rattle.twos.specs.Twos.{TwoSays}
 use Rattle.filling.proofs.Known.{hex-known}
 use Rattle.filling.proofs.Steps.{then-always, then-more, then-next, then-check, steps-more, steps-with, steps-next, steps-pure, rows-length}
 use Rattle.filling.proofs.Puts.{sets-behind, pad-is, singles, repeated}

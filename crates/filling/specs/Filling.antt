@@ -12,8 +12,8 @@ use Rattle.layout.specs.Items.{Pair}
 use Rattle.layout.specs.Rows.{faceRow}
 use Rattle.layout.specs.Reading.{Got, got, bad, Reader, next, pure}
 use Rattle.layout.specs.Sections.{elementOf, facingOf, mixedOf}
-use Rattle.quick.specs.declared.twos.Two.{Two}
-use Rattle.quick.specs.Twos.{TwoSays}
+use Rattle.twos.specs.declared.Two.{Two}
+use Rattle.twos.specs.Twos.{TwoSays}
 use Rattle.filling.specs.declared.rows.Form.{Form}
 
 -- what holds of a thing that is read

@@ -11,8 +11,8 @@ ghost use Rattle.filling.specs.Filling.{Steps, Both, setPairs, origin};
 use super::words::coordinate_at;
 use super::words::past_left;
 use super::words::past_right;
-use mesh::store_exponent;
-use mesh::store_mantissa;
+use stores::store_exponent;
+use stores::store_mantissa;
 
 fn put_pair(s: &[u8], at: usize, mantissas: &mut [i64], exponents: &mut [i32], k: usize) -> usize
     ensures { λ r. ⌜ Steps (now (s .entry)) at r (pairWord (length (now (s .entry))) (tokensFrom (now (s .entry)) at)) (λ p. _≡_ {A = Both} (record { mantissas = now (mantissas .exit); exponents = now (exponents .exit) }) (setPairs (record { mantissas = now (mantissas .entry); exponents = now (exponents .entry) }) k (p ∷ []))) ⌝ }

@@ -14,9 +14,9 @@ use super::words::count_at;
 use super::words::hex_at;
 use super::words::past_left;
 use super::words::past_right;
-use mesh::store;
-use quick::Two;
-use quick::known_two;
+use stores::store;
+use twos::Two;
+use twos::known_two;
 
 // What a row is: a face of n nodes, a face that says how many it has, a cell that says its element.
 pub enum Form {

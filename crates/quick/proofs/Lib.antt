@@ -2,5 +2,4 @@ pub mod Ending
 pub mod Figures
 pub mod Near
 pub mod Knowing
-pub mod Twice
 pub mod Only

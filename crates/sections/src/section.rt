@@ -17,6 +17,7 @@ use dims::dim_listed;
 use dims::dim_word;
 use heads::Header;
 use heads::head_at;
+use ids::id_at;
 use judging::Judged;
 use judging::decl_judged;
 use judging::part_judged;
@@ -39,7 +40,6 @@ use spots::Kind;
 use spots::Past;
 use steps::Close;
 use steps::Num;
-use steps::id_at;
 use steps::number_at;
 use steps::right_at;
 

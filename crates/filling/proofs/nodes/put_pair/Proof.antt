@@ -8,8 +8,8 @@ use Rattle.filling.proofs.nodes.put_pair.Statement.{statement}
 use Rattle.filling.proofs.nodes.put_pair.Tie as tie
 use Rattle.filling.proofs.nodes.put_pair.Reads as reads
 use Rattle.filling.proofs.nodes.put_pair.Lts as lts
-use Rattle.mesh.proofs.store_exponent.Reads as store-exponent-reads
-use Rattle.mesh.proofs.store_mantissa.Reads as store-mantissa-reads
+use Rattle.stores.proofs.store_exponent.Reads as store-exponent-reads
+use Rattle.stores.proofs.store_mantissa.Reads as store-mantissa-reads
 use Rattle.filling.proofs.words.coordinate_at.Reads as coordinate-at-reads
 
 -- src/nodes.rt:20:9

@@ -6,7 +6,7 @@ use Rattle.filling.proofs.rows.put_element.Statement.{statement}
 use Rattle.filling.proofs.rows.put_element.Tie as tie
 use Rattle.filling.proofs.rows.put_element.Reads as reads
 use Rattle.filling.proofs.rows.put_element.Lts as lts
-use Rattle.mesh.proofs.store.Reads as store-reads
+use Rattle.stores.proofs.store.Reads as store-reads
 use Rattle.filling.proofs.words.count_at.Reads as count-at-reads
 
 -- src/rows.rt:104:9

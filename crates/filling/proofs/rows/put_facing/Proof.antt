@@ -6,7 +6,7 @@ use Rattle.filling.proofs.rows.put_facing.Statement.{statement}
 use Rattle.filling.proofs.rows.put_facing.Tie as tie
 use Rattle.filling.proofs.rows.put_facing.Reads as reads
 use Rattle.filling.proofs.rows.put_facing.Lts as lts
-use Rattle.mesh.proofs.store.Reads as store-reads
+use Rattle.stores.proofs.store.Reads as store-reads
 use Rattle.filling.proofs.rows.put_words.Reads as put-words-reads
 use Rattle.filling.proofs.rows.put_zeros.Reads as put-zeros-reads
 

@@ -6,7 +6,7 @@ use Rattle.filling.proofs.rows.put_word.Statement.{statement}
 use Rattle.filling.proofs.rows.put_word.Tie as tie
 use Rattle.filling.proofs.rows.put_word.Reads as reads
 use Rattle.filling.proofs.rows.put_word.Lts as lts
-use Rattle.mesh.proofs.store.Reads as store-reads
+use Rattle.stores.proofs.store.Reads as store-reads
 use Rattle.filling.proofs.words.hex_at.Reads as hex-at-reads
 
 -- src/rows.rt:30:9

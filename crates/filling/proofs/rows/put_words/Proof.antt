@@ -7,7 +7,7 @@ use Rattle.filling.proofs.rows.put_words.Statement.{statement}
 use Rattle.filling.proofs.rows.put_words.Tie as tie
 use Rattle.filling.proofs.rows.put_words.Reads as reads
 use Rattle.filling.proofs.rows.put_words.Lts as lts
-use Rattle.mesh.proofs.store.Reads as store-reads
+use Rattle.stores.proofs.store.Reads as store-reads
 use Rattle.filling.proofs.rows.put_word.Reads as put-word-reads
 use Rattle.filling.proofs.rows.two_left.Reads as two-left-reads
 

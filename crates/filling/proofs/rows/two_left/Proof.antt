@@ -6,7 +6,7 @@ use Rattle.filling.proofs.rows.two_left.Statement.{statement}
 use Rattle.filling.proofs.rows.two_left.Tie as tie
 use Rattle.filling.proofs.rows.two_left.Reads as reads
 use Rattle.filling.proofs.rows.two_left.Lts as lts
-use Rattle.quick.proofs.known_two.Reads as known-two-reads
+use Rattle.twos.proofs.known_two.Reads as known-two-reads
 
 -- src/rows.rt:41:9
 returns : tie.Need-returns

@@ -8,7 +8,7 @@ use Rattle.sections.proofs.section.section_at.Reads as reads
 use Rattle.sections.proofs.section.section_at.Lts as lts
 use Rattle.sections.proofs.section.by_id.Reads as by-id-reads
 use Rattle.sections.proofs.section.is_text.Reads as is-text-reads
-use Rattle.steps.proofs.id_at.Reads as id-at-reads
+use Rattle.ids.proofs.id_at.Reads as id-at-reads
 
 id-at-requires : tie.Need-id-at-requires
 id-at-requires c κs = search needs
