@@ -7,7 +7,7 @@ ghost use Rattle.audit.specs.Audit.{valuesOf, numberOf as auditNumber};
 ghost use Rattle.answers.specs.Words.{readWords, auditWords};
 use audit::Audited;
 use layout::Reply;
-use mesh::store;
+use stores::store;
 
 // Past the end nothing is stored.
 fn store_wide(words: &mut [u64], i: usize, v: u64)
@@ -55,7 +55,7 @@ pub fn answer_read(reply: Reply, answer: &mut [u64]) -> u32
             let o = offset as u64;
             let words: [u64; 7] = [k, o, 0, 0, 0, 0, 0];
             copy_wide(&words, answer);
-            layout::number_of(why)
+            numbering::number_of(why)
         }
         Reply::Accepted {
             dim,

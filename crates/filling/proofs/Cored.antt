@@ -23,7 +23,7 @@ use Rattle.layout.proofs.Dims.{dim-is}
 use Rattle.layout.proofs.Sums.{Seen}
 use Rattle.layout.proofs.Each.{laid-seen}
 use Rattle.layout.proofs.Accepts.{laid-of, stated}
-use Rattle.survey.specs.Files.{verdict}
+use Rattle.endings.specs.Endings.{verdict}
 use Rattle.survey.specs.Sites.{sitesOf, placesOf}
 use Rattle.survey.proofs.Sites.{sites-stand, all-stand}
 use Rattle.points.specs.Points.{coordinatesIn}

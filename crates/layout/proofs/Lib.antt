@@ -29,4 +29,3 @@ pub mod Enough
 pub mod FaceRows
 pub mod Errors
 pub mod Samples
-pub mod Only

@@ -2,12 +2,6 @@
 ghost use mathlib.Core.Path.{_≡_};
 ghost use Rattle.mesh.specs.Rows.{places, faceAt, cellAt};
 
-mod stores;
-
-pub use stores::store;
-pub use stores::store_exponent;
-pub use stores::store_mantissa;
-
 // Places for nodes in a face row.
 pub const PLACES: usize = 4;
 

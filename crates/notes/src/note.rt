@@ -4,12 +4,12 @@ ghost use lib.ListN.{set};
 ghost use Rattle.notes.specs.Noting.{more, withSeen, withDim, dimWith, noteState, noteId, noteFirst, noteLast, notePlace};
 use dims::dim_after;
 use dims::dim_word;
-use mesh::store;
 use sofar::Seen;
 use sofar::State;
 use sofar::id_of;
 use spots::Head;
 use spots::Kind;
+use stores::store;
 
 // What a section says, its body aside.
 pub enum Met {

@@ -4,9 +4,9 @@ ghost use Prim.Native.Nat.{_≤_, _^_};
 ghost use lib.ListN.{length, replicate};
 ghost use Rattle.tokens.specs.Listed.{tokensFrom};
 ghost use Rattle.points.specs.Points.{Both, setPairs, origin, pairTaken, pairsTaken, Took, Puts};
-use mesh::store_exponent;
-use mesh::store_mantissa;
 use steps::Pair;
+use stores::store_exponent;
+use stores::store_mantissa;
 
 // A coordinate and the place behind it.
 pub struct Coordinate {

@@ -3,5 +3,4 @@ pub mod Figures
 pub mod Near
 pub mod Knowing
 pub mod Alone
-pub mod Twice
 pub mod Only

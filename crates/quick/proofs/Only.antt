@@ -4,7 +4,6 @@ use Rattle.facts.specs.Only.{Only}
 use Rattle.quick.proofs.words.digit_hex.Reads as digit-hex
 use Rattle.quick.proofs.words.known_hex.Reads as known-hex
 use Rattle.quick.proofs.words.quick_hex.Reads as quick-hex
-use Rattle.quick.proofs.twos.known_two.Reads as known-two
 
 pub quick-hex-only : Only quick-hex.Post
 quick-hex-only κ a r r′ x x′ p q = p ∙ sym q
@@ -14,6 +13,3 @@ known-hex-only κ a r r′ x x′ p q = p ∙ sym q
 
 pub digit-hex-only : Only digit-hex.Post
 digit-hex-only κ a r r′ x x′ p q = p ∙ sym q
-
-pub known-two-only : Only known-two.Post
-known-two-only κ a r r′ x x′ p q = p .same ∙ sym (q .same)

@@ -1,9 +1,6 @@
 // The usual whole numbers in one look at their bytes. Nothing is refused: whatever else stands there is left to the steps that take the token apart.
-mod twos;
 mod words;
 
-pub use twos::Two;
-pub use twos::known_two;
 pub use words::Known;
 pub use words::Quick;
 pub use words::digit_hex;

@@ -139,7 +139,7 @@ pub(crate) fn print_reply(reply: Reply) {
             section,
             offset,
         } => {
-            io::print_decimal(STDOUT_FILENO, layout::number_of(why) as u64);
+            io::print_decimal(STDOUT_FILENO, numbering::number_of(why) as u64);
             put_number(wide(section));
             put_number(offset as u64);
             put(b" 0 0 0 0 0\n");

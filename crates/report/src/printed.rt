@@ -17,7 +17,7 @@ use lines::put_total;
 fn put_refusal(out: &mut [u8], why: Refusal, section: u32, offset: usize) -> usize
     ensures { λ r. ⌜ Wrote (now (out .entry)) 0 (line (bytes "refused") (numberOf why ∷ section ∷ offset ∷ [])) (now (out .exit)) r ⌝ }
 {
-    let number = layout::number_of(why) as usize;
+    let number = numbering::number_of(why) as usize;
     let k = section as usize;
     put_line(out, b"refused", number, k, offset)
 }

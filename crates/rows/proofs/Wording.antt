@@ -7,9 +7,9 @@ use lib.ListN.{length, set, replicate}
 use lib.Seq.{sets}
 use Rattle.layout.specs.Rows.{joined}
 use Rattle.quick.specs.declared.words.Known.{Known}
-use Rattle.quick.specs.declared.twos.Two.{Two}
+use Rattle.twos.specs.declared.Two.{Two}
 use Rattle.quick.specs.Quick.{knownOf}
-use Rattle.quick.specs.Twos.{TwoSays}
+use Rattle.twos.specs.Twos.{TwoSays}
 use Rattle.again.specs.Again.{many}
 use Rattle.again.proofs.Puts.{sets-behind, singles, repeated}
 use Rattle.again.proofs.Many.{Going, going-start, going-more, going-end}

@@ -4,9 +4,9 @@ use mathlib.Core.Path.{_≡_}
 use mathlib.Core.List.{List}
 use lib.Seq.{sets}
 use Rattle.again.specs.Again.{Taken, many}
-use Rattle.quick.specs.declared.twos.Two.{Two}
+use Rattle.twos.specs.declared.Two.{Two}
 use Rattle.quick.specs.Quick.{knownOf}
-use Rattle.quick.specs.Twos.{TwoSays}
+use Rattle.twos.specs.Twos.{TwoSays}
 
 -- the number that the digits there say
 abbrev pub wordAt : List ℕ → ℕ → Taken ℕ ℕ

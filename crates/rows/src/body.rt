@@ -6,7 +6,7 @@ ghost use Rattle.rows.specs.Rows.{rowsAt, sameRows};
 use super::row::Form;
 use super::row::put_row;
 use super::row::width_of;
-use mesh::store;
+use stores::store;
 
 fn put_all(s: &[u8], at: usize, form: Form, ztype: u32, n: u32, rows: &mut [u32], k: usize)
     requires { ⌜ k ≤ 2 ^ 61 ⌝ }

@@ -7,7 +7,7 @@ ghost use Rattle.rows.specs.Rows.{cornersOf, facingAt, mixedAt, elementA
 use super::words::count_at;
 use super::words::put_words;
 use super::words::put_zeros;
-use mesh::store;
+use stores::store;
 
 // What a row is: a face of n nodes, a face that says how many it has, a cell that says its element.
 pub enum Form {

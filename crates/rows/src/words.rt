@@ -6,11 +6,11 @@ ghost use lib.ListN.{replicate};
 ghost use lib.Seq.{sets};
 ghost use Rattle.quick.specs.Quick.{knownOf};
 ghost use Rattle.rows.specs.Words.{wordsAt, Puts, TwoLeft};
-use mesh::store;
 use quick::Known;
 use quick::Quick;
-use quick::Two;
-use quick::known_two;
+use stores::store;
+use twos::Two;
+use twos::known_two;
 
 // A word by its digits, and most numbers that lead a row are one digit.
 pub(crate) fn count_at(s: &[u8], at: usize) -> Known

@@ -25,7 +25,8 @@ use Rattle.ranges.specs.Ranges.{limitFor}
 use Rattle.dims.specs.Dims.{dimWordFor, agrees, known}
 use Rattle.judging.specs.Judging.{test, declJudged, partJudged}
 use Rattle.sofar.specs.Sofar.{seenOf, roomOf, countFor}
-use Rattle.sections.specs.Sections.{Outline, outlineOf, outlined, metFor, roomAll, stateFor, clearFor, gate, ended, bodyEnded}
+use Rattle.sections.specs.Sections.{Outline, outlineOf, outlined, metFor, roomAll, clearFor, gate, ended, bodyEnded}
+use Rattle.sofar.specs.States.{stateFor}
 
 -- ---- the tests of the code are those of the layout
 pub record Test : Type 0 where

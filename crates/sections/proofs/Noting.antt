@@ -19,7 +19,8 @@ use Rattle.sofar.specs.declared.State.{State}
 use Rattle.notes.specs.declared.note.Met.{Met}
 use Rattle.sofar.specs.Sofar.{idFor}
 use Rattle.notes.specs.Noting.{more, noteState, noteId, noteFirst, noteLast}
-use Rattle.sections.specs.Sections.{Outline, dim, decl, part, other, outlineOf, metFor, stateFor}
+use Rattle.sections.specs.Sections.{Outline, dim, decl, part, other, outlineOf, metFor}
+use Rattle.sofar.specs.States.{stateFor}
 use Rattle.kept.specs.declared.Entry.{Entry}
 use Rattle.kept.specs.Kept.{consed, entryAt, keptOf}
 

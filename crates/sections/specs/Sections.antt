@@ -75,19 +75,6 @@ abbrev pub roomAll : Room → Keeps.Room
 roomAll r = record { nodes = limitFor (r .nodes); cells = limitFor (r .cells); faces = limitFor (r .faces); zones = limitFor (r .zones) }
 
 module _ (ids firsts lasts : List ℕ) where
-  abbrev pub perFor : ℕ → Seen → ℕ → St.Per
-  perFor z p id = record { declared = p .declared; total = p .total; spans = keptOf ids firsts lasts id z }
-
-  abbrev pub stateFor : State → St.State
-  stateFor x =
-      record {
-        dimension = x .dim;
-        nodes = perFor (x .zones) (x .nodes) 10;
-        cells = perFor (x .zones) (x .cells) 12;
-        faces = perFor (x .zones) (x .faces) 13;
-        zones = x .zones;
-      }
-
   abbrev pub clearFor : Kind → ℕ → Head → Bool
   clearFor k z h = every (clear (h .first .value) (h .last .value)) (keptOf ids firsts lasts (idFor k) z)
 

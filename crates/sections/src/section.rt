@@ -9,7 +9,8 @@ ghost use Rattle.layout.specs.Sections.{twoOf, declOf, partOf, kindOf, otherOf,
 ghost use Rattle.spots.specs.Heads.{kindFor, headFor};
 ghost use Rattle.judging.specs.Judging.{declJudged, partJudged};
 ghost use Rattle.sofar.specs.Sofar.{seenOf, roomOf};
-ghost use Rattle.sections.specs.Sections.{SectAt, settle, twoJudged, gate, ended, bodyEnded, outlined, stateFor, roomAll, clearFor, twoEnd, byId};
+ghost use Rattle.sofar.specs.States.{stateFor};
+ghost use Rattle.sections.specs.Sections.{SectAt, settle, twoJudged, gate, ended, bodyEnded, outlined, roomAll, clearFor, twoEnd, byId};
 use bodies::body_at;
 use dims::dim_after;
 use dims::dim_agrees;
@@ -17,6 +18,7 @@ use dims::dim_listed;
 use dims::dim_word;
 use heads::Header;
 use heads::head_at;
+use ids::id_at;
 use judging::Judged;
 use judging::decl_judged;
 use judging::part_judged;
@@ -39,7 +41,6 @@ use spots::Kind;
 use spots::Past;
 use steps::Close;
 use steps::Num;
-use steps::id_at;
 use steps::number_at;
 use steps::right_at;
 

@@ -1,4 +1,2 @@
 pub mod Stepping
-mod Eights
-mod Shown
 pub mod Alike

@@ -7,7 +7,6 @@ use Rattle.spots.specs.Pasts.{pastView}
 use Rattle.steps.proofs.step.left_at.Reads as left-at
 use Rattle.steps.proofs.step.right_at.Reads as right-at
 use Rattle.steps.proofs.step.number_at.Reads as number-at
-use Rattle.steps.proofs.ids.id_at.Reads as id-at
 use Rattle.steps.proofs.pair.pair_at.Reads as pair-at
 
 pub left-at-alike : Alike (λ κ a r. pastView (now (a .0)) r) left-at.Post
@@ -18,9 +17,6 @@ right-at-alike κ a r r′ x x′ p q = p .says ∙ sym (q .says)
 
 pub number-at-alike : Alike (λ κ a r. numView (now (a .0)) r) number-at.Post
 number-at-alike κ a r r′ x x′ p q = p .says ∙ sym (q .says)
-
-pub id-at-alike : Alike (λ κ a r. numView (now (a .0)) r) id-at.Post
-id-at-alike κ a r r′ x x′ p q = p .says ∙ sym (q .says)
 
 pub pair-at-alike : Alike (λ κ a r. pairView (now (a .0)) r) pair-at.Post
 pair-at-alike κ a r r′ x x′ p q = p .says ∙ sym (q .says)

@@ -1,9 +1,7 @@
 // One thing expected at a place of a file: the layout's steps. Each answers a refusal where the token there is another one.
-mod ids;
 mod pair;
 mod step;
 
-pub use ids::id_at;
 pub use pair::pair_at;
 pub use step::Close;
 pub use step::Num;

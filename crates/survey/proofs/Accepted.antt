@@ -10,7 +10,7 @@ use Rattle.layout.specs.Says.{LaidText}
 use Rattle.layout.specs.State.{State, start, afterAll}
 use Rattle.layout.specs.Read.{Answer, accepted, refused, answerOf}
 use Rattle.layout.proofs.Accepts.{answerOf-exactly, stated}
-use Rattle.survey.specs.Files.{verdict}
+use Rattle.endings.specs.Endings.{verdict}
 
 -- what Accepted holds of these items
 abbrev pub told : List Item → Reply

@@ -42,8 +42,9 @@ use Rattle.sofar.specs.declared.Seen as S
 use Rattle.kept.specs.Kept.{keptOf}
 use Rattle.sofar.specs.Sofar.{idFor}
 use Rattle.notes.specs.Noting.{noteState, noteId, noteFirst, noteLast, notePlace}
-use Rattle.sections.specs.Sections.{Outline, other, outlineOf, outlined, metFor, sectView, SectAt, stateFor}
-use Rattle.survey.specs.Files.{verdict, lastOf}
+use Rattle.sections.specs.Sections.{Outline, other, outlineOf, outlined, metFor, sectView, SectAt}
+use Rattle.sofar.specs.States.{stateFor}
+use Rattle.endings.specs.Endings.{verdict, lastOf}
 use Rattle.survey.specs.Sites.{sited, sitedBy, sitesFrom, tokenSites}
 use Rattle.sections.proofs.Noting.{isPart, note-is}
 use Rattle.survey.proofs.Based.{left-next}

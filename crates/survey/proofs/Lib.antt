@@ -1,6 +1,6 @@
 pub mod Based
 pub mod Sites
-pub mod Closing
+pub mod Lengths
 pub mod Filing
 pub mod Accepted
 pub mod Only

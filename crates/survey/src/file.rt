@@ -1,18 +1,17 @@
 // A whole file, judged: section by section, then what must hold at its end.
 ghost use mathlib.Core.Path.{_≡_};
-ghost use mathlib.Core.Bool.{_&&_};
 ghost use lib.ListN.{length};
 ghost use lib.Seq.{sets};
 ghost use Prim.Native.Nat.{_≤_};
 ghost use Rattle.sizes.specs.Sizes.{fileBytes, zones};
 ghost use Rattle.tokens.specs.Tokens.{tokenAt};
 ghost use Rattle.tokens.specs.Listed.{tokensFrom};
-ghost use Rattle.layout.specs.Read.{endOf, tokensAnswer, answerOf};
+ghost use Rattle.layout.specs.Read.{tokensAnswer, answerOf};
 ghost use Rattle.layout.specs.Replies.{shown};
-ghost use Rattle.sections.specs.Sections.{stateFor, roomAll};
-ghost use Rattle.survey.specs.Files.{verdict, closing, lastOf};
+ghost use Rattle.sections.specs.Sections.{roomAll};
+ghost use Rattle.endings.specs.Endings.{verdict};
 ghost use Rattle.survey.specs.Sites.{tokenSites, placesOf};
-use kept::is_tiled;
+use endings::last_of;
 use layout::Refusal;
 use layout::Reply;
 use notes::keep;
@@ -32,86 +31,6 @@ const LEFT: u8 = 40;
 pub struct Located {
     pub reply: Reply,
     pub places: [u32; 64],
-}
-
-fn all_three(a: bool, b: bool, c: bool) -> bool
-    ensures { λ r. ⌜ r ≡ (a && (b && c)) ⌝ }
-{
-    a && (b && c)
-}
-
-fn refused(why: Refusal, section: u32, offset: usize) -> Reply
-    ensures { λ r. ⌜ r ≡ Reply.Refused why section offset ⌝ }
-{
-    Reply::Refused {
-        why,
-        section,
-        offset,
-    }
-}
-
-// "At the end: 13, 10, 14."
-fn closing_of(declared: bool, known: bool, covered: bool, x: State, k: u32, size: usize) -> Reply
-    ensures { λ r. ⌜ r ≡ closing declared known covered x k size ⌝ }
-{
-    if !declared {
-        return refused(Refusal::Missing, k, size);
-    }
-    if !known {
-        return refused(Refusal::Dimension, k, size);
-    }
-    if !covered {
-        return refused(Refusal::Untiled, k, size);
-    }
-    let nodes = x.nodes;
-    let cells = x.cells;
-    let faces = x.faces;
-    Reply::Accepted {
-        dim: x.dim,
-        nodes: nodes.total,
-        faces: faces.total,
-        cells: cells.total,
-        zones: x.zones,
-    }
-}
-
-fn end_of(x: State, ids: &[u32], firsts: &[u32], lasts: &[u32], k: u32, size: usize) -> Reply
-    ensures { λ r. ⌜ r ≡ verdict (endOf size (stateFor (now (ids .entry)) (now (firsts .entry)) (now (lasts .entry)) x) k) ⌝ }
-{
-    let nodes = x.nodes;
-    let cells = x.cells;
-    let faces = x.faces;
-    let z = x.zones as usize;
-    let n = is_tiled(ids, firsts, lasts, z, 10, nodes.total);
-    let c = is_tiled(ids, firsts, lasts, z, 12, cells.total);
-    let f = is_tiled(ids, firsts, lasts, z, 13, faces.total);
-    let covered = all_three(n, c, f);
-    let declared = all_three(nodes.declared, faces.declared, true);
-    let known = x.dim != 0;
-    closing_of(declared, known, covered, x, k, size)
-}
-
-// A token that opens no section: the end, or what stands in no file.
-fn last_of(
-    kind: Token,
-    start: usize,
-    x: State,
-    ids: &[u32],
-    firsts: &[u32],
-    lasts: &[u32],
-    k: u32,
-    size: usize,
-) -> Reply
-    ensures { λ r. ⌜ r ≡ lastOf kind start (stateFor (now (ids .entry)) (now (firsts .entry)) (now (lasts .entry)) x) k size ⌝ }
-{
-    match kind {
-        Token::End => end_of(x, ids, firsts, lasts, k, size),
-        Token::Left => refused(Refusal::Grammar, k, start),
-        Token::Right => refused(Refusal::Grammar, k, start),
-        Token::Text => refused(Refusal::Grammar, k, start),
-        Token::Word => refused(Refusal::Grammar, k, start),
-        Token::Unclosed => refused(Refusal::Grammar, k, start),
-    }
 }
 
 // The first token at or behind a place. A `(` is known by its byte, and mostly stands there.
@@ -172,7 +91,11 @@ fn file_from(
             Sect::No(bad) => {
                 let why = bad.why;
                 let offset = bad.offset;
-                return refused(why, k, offset);
+                return Reply::Refused {
+                    why,
+                    section: k,
+                    offset,
+                };
             }
             Sect::Is { met, next: to } => {
                 let z = x.zones;
@@ -191,7 +114,11 @@ pub fn locate(s: &[u8], room: Room) -> Located
 {
     let mut places: [u32; 64] = [0; 64];
     if sizes::FILE_BYTES < s.len() {
-        let reply = refused(Refusal::TooLong, 0, 0);
+        let reply = Reply::Refused {
+            why: Refusal::TooLong,
+            section: 0,
+            offset: 0,
+        };
         return Located { reply, places };
     }
     let mut ids: [u32; 64] = [0; 64];

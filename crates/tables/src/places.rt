@@ -4,7 +4,7 @@ ghost use mathlib.Core.Path.{_≡_};
 ghost use lib.Seq.{sets};
 ghost use Rattle.tables.specs.Places.{wordsOf};
 use mesh::Zone;
-use mesh::store;
+use stores::store;
 
 // The rows before the index `first`; indices begin at 1.
 pub fn rows_before(first: u32) -> usize

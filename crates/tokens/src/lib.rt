@@ -68,34 +68,19 @@ fn class_of(b: u8) -> Class
 fn goes_on(k: Run, c: Class) -> bool
     ensures { λ r. ⌜ r ≡ goesOn k c ⌝ }
 {
-    match k {
-        Run::Blanks => match c {
-            Class::Blank => true,
-            Class::Left => false,
-            Class::Right => false,
-            Class::Quote => false,
-            Class::Other => false,
+    match c {
+        Class::Blank => match k {
+            Run::Word => false,
+            Run::Blanks | Run::Text | Run::Plain => true,
         },
-        Run::Word => match c {
-            Class::Blank => false,
-            Class::Left => false,
-            Class::Right => false,
-            Class::Quote => false,
-            Class::Other => true,
+        Class::Left | Class::Right => match k {
+            Run::Text => true,
+            Run::Blanks | Run::Word | Run::Plain => false,
         },
-        Run::Text => match c {
-            Class::Blank => true,
-            Class::Left => true,
-            Class::Right => true,
-            Class::Quote => false,
-            Class::Other => true,
-        },
-        Run::Plain => match c {
-            Class::Blank => true,
-            Class::Left => false,
-            Class::Right => false,
-            Class::Quote => false,
-            Class::Other => true,
+        Class::Quote => false,
+        Class::Other => match k {
+            Run::Blanks => false,
+            Run::Word | Run::Text | Run::Plain => true,
         },
     }
 }

@@ -10,7 +10,7 @@ use Rattle.answers.proofs.answers.answer_read.Tie as tie
 use Rattle.answers.proofs.answers.answer_read.Reads as reads
 use Rattle.answers.proofs.answers.answer_read.Lts as lts
 use Rattle.answers.proofs.answers.copy_wide.Reads as copy-wide-reads
-use Rattle.layout.proofs.number_of.Reads as number-of-reads
+use Rattle.numbering.proofs.number_of.Reads as number-of-reads
 
 -- src/answers.rt:73:13
 enum-known-reply : tie.Need-enum-known-reply

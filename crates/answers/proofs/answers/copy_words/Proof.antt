@@ -7,7 +7,7 @@ use Rattle.answers.proofs.answers.copy_words.Statement.{statement}
 use Rattle.answers.proofs.answers.copy_words.Tie as tie
 use Rattle.answers.proofs.answers.copy_words.Reads as reads
 use Rattle.answers.proofs.answers.copy_words.Lts as lts
-use Rattle.mesh.proofs.store.Reads as store-reads
+use Rattle.stores.proofs.store.Reads as store-reads
 
 abbrev Inv-loop : tie.InvT-loop
 Inv-loop from to₀ i₀ to i = Copied 0 from to₀ i to

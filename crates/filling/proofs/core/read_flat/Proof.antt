@@ -3,7 +3,7 @@ use Rattle.layout.specs.Read.{answerOf}
 use Rattle.layout.proofs.Shown.{shown-only}
 use Rattle.sofar.specs.declared.Room.{Room}
 use Rattle.sections.specs.Sections.{roomAll}
-use Rattle.survey.specs.Files.{verdict}
+use Rattle.endings.specs.Endings.{verdict}
 use Rattle.survey.specs.Sites.{placesOf}
 use Rattle.points.proofs.Good.{few-coordinates}
 use Rattle.filling.proofs.Cored.{few-accepted, core-refused, core-accepted}

@@ -9,8 +9,8 @@ use Rattle.points.proofs.pair.put_origins.Statement.{statement}
 use Rattle.points.proofs.pair.put_origins.Tie as tie
 use Rattle.points.proofs.pair.put_origins.Reads as reads
 use Rattle.points.proofs.pair.put_origins.Lts as lts
-use Rattle.mesh.proofs.store_exponent.Reads as store-exponent-reads
-use Rattle.mesh.proofs.store_mantissa.Reads as store-mantissa-reads
+use Rattle.stores.proofs.store_exponent.Reads as store-exponent-reads
+use Rattle.stores.proofs.store_mantissa.Reads as store-mantissa-reads
 
 abbrev Inv-loop : tie.InvT-loop
 Inv-loop n mantissas₀ exponents₀ k left₀ i₀ mantissas exponents left i = (length mantissas ≡ length mantissas₀) × (length exponents ≡ length exponents₀) × Repeating setPairs naught n k (record { mantissas = mantissas₀; exponents = exponents₀ }) left i (record { mantissas = mantissas; exponents = exponents })

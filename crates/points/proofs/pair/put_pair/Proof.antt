@@ -7,8 +7,8 @@ use Rattle.points.proofs.pair.put_pair.Statement.{statement}
 use Rattle.points.proofs.pair.put_pair.Tie as tie
 use Rattle.points.proofs.pair.put_pair.Reads as reads
 use Rattle.points.proofs.pair.put_pair.Lts as lts
-use Rattle.mesh.proofs.store_exponent.Reads as store-exponent-reads
-use Rattle.mesh.proofs.store_mantissa.Reads as store-mantissa-reads
+use Rattle.stores.proofs.store_exponent.Reads as store-exponent-reads
+use Rattle.stores.proofs.store_mantissa.Reads as store-mantissa-reads
 use Rattle.points.proofs.pair.coordinate_at.Reads as coordinate-at-reads
 
 coordinate-at-requires : tie.Need-coordinate-at-requires

@@ -7,7 +7,7 @@ use Rattle.report.proofs.printed.put_refusal.Tie as tie
 use Rattle.report.proofs.printed.put_refusal.Reads as reads
 use Rattle.report.proofs.printed.put_refusal.Lts as lts
 use Rattle.lines.proofs.put_line.Reads as put-line-reads
-use Rattle.layout.proofs.number_of.Reads as number-of-reads
+use Rattle.numbering.proofs.number_of.Reads as number-of-reads
 
 -- src/printed.rt:41:9
 number-of-requires : tie.Need-number-of-requires

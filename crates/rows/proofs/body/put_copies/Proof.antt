@@ -14,7 +14,7 @@ use Rattle.rows.proofs.body.put_copies.Statement.{statement}
 use Rattle.rows.proofs.body.put_copies.Tie as tie
 use Rattle.rows.proofs.body.put_copies.Reads as reads
 use Rattle.rows.proofs.body.put_copies.Lts as lts
-use Rattle.mesh.proofs.store.Reads as store-reads
+use Rattle.stores.proofs.store.Reads as store-reads
 
 abbrev Inv-loop : tie.InvT-loop
 Inv-loop element ztype n rows₀ k left₀ i₀ rows left i = (length rows ≡ length rows₀) × Repeating sets (element ∷ ztype ∷ []) n k rows₀ left i rows

@@ -5,7 +5,7 @@ use Rattle.rows.proofs.row.put_element.Statement.{statement}
 use Rattle.rows.proofs.row.put_element.Tie as tie
 use Rattle.rows.proofs.row.put_element.Reads as reads
 use Rattle.rows.proofs.row.put_element.Lts as lts
-use Rattle.mesh.proofs.store.Reads as store-reads
+use Rattle.stores.proofs.store.Reads as store-reads
 use Rattle.rows.proofs.words.count_at.Reads as count-at-reads
 
 count-at-requires : tie.Need-count-at-requires

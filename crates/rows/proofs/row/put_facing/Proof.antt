@@ -5,7 +5,7 @@ use Rattle.rows.proofs.row.put_facing.Statement.{statement}
 use Rattle.rows.proofs.row.put_facing.Tie as tie
 use Rattle.rows.proofs.row.put_facing.Reads as reads
 use Rattle.rows.proofs.row.put_facing.Lts as lts
-use Rattle.mesh.proofs.store.Reads as store-reads
+use Rattle.stores.proofs.store.Reads as store-reads
 use Rattle.rows.proofs.words.put_words.Reads as put-words-reads
 use Rattle.rows.proofs.words.put_zeros.Reads as put-zeros-reads
 

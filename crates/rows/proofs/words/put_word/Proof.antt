@@ -5,7 +5,7 @@ use Rattle.rows.proofs.words.put_word.Statement.{statement}
 use Rattle.rows.proofs.words.put_word.Tie as tie
 use Rattle.rows.proofs.words.put_word.Reads as reads
 use Rattle.rows.proofs.words.put_word.Lts as lts
-use Rattle.mesh.proofs.store.Reads as store-reads
+use Rattle.stores.proofs.store.Reads as store-reads
 use Rattle.quick.proofs.known_hex.Reads as known-hex-reads
 
 known-hex-requires : tie.Need-known-hex-requires

@@ -7,7 +7,7 @@ use Rattle.rows.proofs.words.put_words.Statement.{statement}
 use Rattle.rows.proofs.words.put_words.Tie as tie
 use Rattle.rows.proofs.words.put_words.Reads as reads
 use Rattle.rows.proofs.words.put_words.Lts as lts
-use Rattle.mesh.proofs.store.Reads as store-reads
+use Rattle.stores.proofs.store.Reads as store-reads
 use Rattle.rows.proofs.words.put_word.Reads as put-word-reads
 use Rattle.rows.proofs.words.two_left.Reads as two-left-reads
 

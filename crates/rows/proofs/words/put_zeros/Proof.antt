@@ -10,7 +10,7 @@ use Rattle.rows.proofs.words.put_zeros.Statement.{statement}
 use Rattle.rows.proofs.words.put_zeros.Tie as tie
 use Rattle.rows.proofs.words.put_zeros.Reads as reads
 use Rattle.rows.proofs.words.put_zeros.Lts as lts
-use Rattle.mesh.proofs.store.Reads as store-reads
+use Rattle.stores.proofs.store.Reads as store-reads
 
 abbrev Inv-loop : tie.InvT-loop
 Inv-loop words₀ k n left₀ i₀ words left i = (length words ≡ length words₀) × Repeating sets naught n k words₀ left i words

@@ -6,7 +6,7 @@ use Rattle.rows.proofs.words.two_left.Statement.{statement}
 use Rattle.rows.proofs.words.two_left.Tie as tie
 use Rattle.rows.proofs.words.two_left.Reads as reads
 use Rattle.rows.proofs.words.two_left.Lts as lts
-use Rattle.quick.proofs.known_two.Reads as known-two-reads
+use Rattle.twos.proofs.known_two.Reads as known-two-reads
 
 returns : tie.Need-returns
 returns c = search needs

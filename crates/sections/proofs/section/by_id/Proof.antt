@@ -1,6 +1,7 @@
 use Rattle.sections.proofs.Ids.{id-two, id-node, id-cell, id-face, id-other}
 use Rattle.sections.proofs.Sections.{sect-is}
-use Rattle.sections.specs.Sections.{roomAll, stateFor}
+use Rattle.sections.specs.Sections.{roomAll}
+use Rattle.sofar.specs.States.{stateFor}
 use borrow.Author.Needs.{needs}
 use native.Mathlib.Omega.{arith}
 use Rattle.sections.proofs.section.by_id.Statement.{statement}

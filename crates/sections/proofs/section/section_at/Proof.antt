@@ -1,5 +1,6 @@
 use Rattle.sections.proofs.Ids.{section-no, section-to, section-binary}
-use Rattle.sections.specs.Sections.{roomAll, stateFor}
+use Rattle.sections.specs.Sections.{roomAll}
+use Rattle.sofar.specs.States.{stateFor}
 use borrow.Author.Needs.{needs}
 use native.Mathlib.Omega.{arith}
 use Rattle.sections.proofs.section.section_at.Statement.{statement}
@@ -8,7 +9,7 @@ use Rattle.sections.proofs.section.section_at.Reads as reads
 use Rattle.sections.proofs.section.section_at.Lts as lts
 use Rattle.sections.proofs.section.by_id.Reads as by-id-reads
 use Rattle.sections.proofs.section.is_text.Reads as is-text-reads
-use Rattle.steps.proofs.id_at.Reads as id-at-reads
+use Rattle.ids.proofs.id_at.Reads as id-at-reads
 
 id-at-requires : tie.Need-id-at-requires
 id-at-requires c κs = search needs

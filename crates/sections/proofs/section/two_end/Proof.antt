@@ -1,5 +1,5 @@
 use Rattle.sections.proofs.Sections.{two-shut, two-settled}
-use Rattle.sections.specs.Sections.{stateFor}
+use Rattle.sofar.specs.States.{stateFor}
 use mathlib.Core.Path.{_≡_, refl}
 use borrow.Author.Needs.{needs}
 use native.Mathlib.Omega.{arith}

@@ -13,8 +13,8 @@ use Rattle.skips.proofs.skip.skip_from.Tie as tie
 use Rattle.skips.proofs.skip.skip_from.Reads as reads
 use Rattle.skips.proofs.skip.skip_from.Lts as lts
 use Rattle.skips.proofs.skip.no.Reads as no-reads
-use Rattle.skips.proofs.marks.mark_from.Reads as mark-from-reads
-use Rattle.skips.proofs.quotes.quote_from.Reads as quote-from-reads
+use Rattle.finds.proofs.mark_from.Reads as mark-from-reads
+use Rattle.finds.proofs.quote_from.Reads as quote-from-reads
 
 abbrev Inv-loop : tie.InvT-loop
 Inv-loop s at size c₀ d₀ c d = Left s at c d

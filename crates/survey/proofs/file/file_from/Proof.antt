@@ -2,15 +2,14 @@ use Rattle.survey.proofs.Filing.{Filing, nothing-kept, filing-start, fi
 use Rattle.sections.specs.Sections.{roomAll}
 use lib.ListN.{length}
 use Prim.Native.Nat.{_-_}
-use mathlib.Core.Path.{_∙_, sym}
+use mathlib.Core.Path.{_∙_, sym, refl}
 use borrow.Author.Needs.{needs}
 use native.Mathlib.Omega.{arith}
 use Rattle.survey.proofs.file.file_from.Statement.{statement}
 use Rattle.survey.proofs.file.file_from.Tie as tie
 use Rattle.survey.proofs.file.file_from.Reads as reads
 use Rattle.survey.proofs.file.file_from.Lts as lts
-use Rattle.survey.proofs.file.last_of.Reads as last-of-reads
-use Rattle.survey.proofs.file.refused.Reads as refused-reads
+use Rattle.endings.proofs.last_of.Reads as last-of-reads
 use Rattle.notes.proofs.keep.Reads as keep-reads
 use Rattle.notes.proofs.noted.Reads as noted-reads
 use Rattle.sections.proofs.section_at.Reads as section-at-reads
@@ -58,23 +57,20 @@ section-at-requires c κs = search needs
 enum-known-r : tie.Need-enum-known-r Inv-loop μ-loop
 enum-known-r c = search needs
 
-refused-requires : tie.Need-refused-requires Inv-loop μ-loop
-refused-requires c κs = search needs
-
 same-length-5 : tie.Need-same-length-5 Inv-loop μ-loop
-same-length-5 c = c .before .before .before .before .before .before .before .before .before .before .before .loop .inv .ids-long ∙ sym (c .before .before .before .before .before .before .before .before .before .before .before .before .before .before .before .before .before .pre .1 .0)
+same-length-5 c = c .before .before .before .before .before .before .before .before .before .before .loop .inv .ids-long ∙ sym (c .before .before .before .before .before .before .before .before .before .before .before .before .before .before .before .before .pre .1 .0)
 
 same-length-6 : tie.Need-same-length-6 Inv-loop μ-loop
-same-length-6 c = c .before .before .before .before .before .before .before .before .before .before .before .loop .inv .firsts-long ∙ sym (c .before .before .before .before .before .before .before .before .before .before .before .before .before .before .before .before .before .pre .1 .1 .0)
+same-length-6 c = c .before .before .before .before .before .before .before .before .before .before .loop .inv .firsts-long ∙ sym (c .before .before .before .before .before .before .before .before .before .before .before .before .before .before .before .before .pre .1 .1 .0)
 
 same-length-7 : tie.Need-same-length-7 Inv-loop μ-loop
-same-length-7 c = c .before .before .before .before .before .before .before .before .before .before .before .loop .inv .lasts-long ∙ sym (c .before .before .before .before .before .before .before .before .before .before .before .before .before .before .before .before .before .pre .1 .1 .1)
+same-length-7 c = c .before .before .before .before .before .before .before .before .before .before .loop .inv .lasts-long ∙ sym (c .before .before .before .before .before .before .before .before .before .before .before .before .before .before .before .before .pre .1 .1 .1)
 
 same-length-8 : tie.Need-same-length-8 Inv-loop μ-loop
-same-length-8 c = c .before .before .before .before .before .before .before .before .before .before .before .loop .inv .places-long
+same-length-8 c = c .before .before .before .before .before .before .before .before .before .before .loop .inv .places-long
 
 returns-2 : tie.Need-returns-2 Inv-loop μ-loop
-returns-2 c = filing-no _ (roomAll (c .before .before .before .before .before .before .before .before .before .before .before .before .before .before .before .before .before .args .room)) _ _ _ _ _ _ _ _ (c .before .before .before .before .before .before .before .before .before .before .before .loop .inv) _ (c .before .before .before .before .before .before .before .before .before .before .token-at .ensures) (c .before .before .before .before .before .before .before .before .enum-told .given .1) _ (c .before .before .before .before .section-at .ensures) (c .before .before .r .given .1) (c .refused .ensures)
+returns-2 c = filing-no _ (roomAll (c .before .before .before .before .before .before .before .before .before .before .before .before .before .before .before .before .args .room)) _ _ _ _ _ _ _ _ (c .before .before .before .before .before .before .before .before .before .before .loop .inv) _ (c .before .before .before .before .before .before .before .before .before .token-at .ensures) (c .before .before .before .before .before .before .before .enum-told .given .1) _ (c .before .before .before .section-at .ensures) (c .before .r .given .1) refl
 
 enum-known-r-2 : tie.Need-enum-known-r-2 Inv-loop μ-loop
 enum-known-r-2 c = search needs
@@ -112,7 +108,6 @@ file-from-spec =
     add-k
     section-at-requires
     enum-known-r
-    refused-requires
     same-length-5
     same-length-6
     same-length-7

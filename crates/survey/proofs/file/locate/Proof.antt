@@ -1,6 +1,6 @@
-use mathlib.Core.Path.{ap}
+use mathlib.Core.Path.{ap, refl}
 use Rattle.layout.specs.Replies.{shown}
-use Rattle.survey.proofs.Closing.{too-long, not-too-long, no-places, its-places}
+use Rattle.survey.proofs.Lengths.{too-long, not-too-long, no-places, its-places}
 use Rattle.sections.specs.Sections.{roomAll}
 use borrow.Author.Needs.{needs}
 use native.Mathlib.Omega.{arith}
@@ -9,13 +9,9 @@ use Rattle.survey.proofs.file.locate.Tie as tie
 use Rattle.survey.proofs.file.locate.Reads as reads
 use Rattle.survey.proofs.file.locate.Lts as lts
 use Rattle.survey.proofs.file.file_from.Reads as file-from-reads
-use Rattle.survey.proofs.file.refused.Reads as refused-reads
-
-refused-requires : tie.Need-refused-requires
-refused-requires c κs = search needs
 
 returns : tie.Need-returns
-returns c = (ap shown (too-long (c .before .before .before .args .s .now) (roomAll (c .before .before .before .args .room)) (c .before .if1 .taken) (c .refused .ensures)), no-places (c .before .before .before .args .s .now) (roomAll (c .before .before .before .args .room)) (c .before .if1 .taken))
+returns c = (ap shown (too-long (c .before .before .args .s .now) (roomAll (c .before .before .args .room)) (c .if1 .taken) refl), no-places (c .before .before .args .s .now) (roomAll (c .before .before .args .room)) (c .if1 .taken))
 
 slice-aggregate-file-from : tie.Need-slice-aggregate-file-from
 slice-aggregate-file-from c = search needs
@@ -39,7 +35,6 @@ pub locate-spec : {M : Type 1} → statement M
 locate-spec =
     tie.close
     (tie.spec
-    refused-requires
     returns
     slice-aggregate-file-from
     slice-aggregate-file-from-2

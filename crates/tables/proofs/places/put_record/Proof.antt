@@ -10,7 +10,7 @@ use Rattle.tables.proofs.places.put_record.Statement.{statement}
 use Rattle.tables.proofs.places.put_record.Tie as tie
 use Rattle.tables.proofs.places.put_record.Reads as reads
 use Rattle.tables.proofs.places.put_record.Lts as lts
-use Rattle.mesh.proofs.store.Reads as store-reads
+use Rattle.stores.proofs.store.Reads as store-reads
 
 mul-k : tie.Need-mul-k
 mul-k c = search needs

@@ -1,0 +1,3 @@
+mod Eights
+mod Shown
+pub mod Only

@@ -1,0 +1,2 @@
+mod Figured
+pub mod Alike

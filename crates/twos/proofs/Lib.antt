@@ -1,0 +1,2 @@
+mod Twice
+pub mod Only
