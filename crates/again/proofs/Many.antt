@@ -7,9 +7,10 @@ use mathlib.Core.List.{List, [], _∷_, _++_, map}
 use lib.ListN.{length, replicate}
 use Rattle.tokens.specs.Listed.{Tok}
 use Rattle.layout.specs.Rows.{joined}
-use Rattle.layout.specs.Reading.{Got, got, bad, Reader, next, pure, rowsOf}
+use Rattle.layout.specs.Reading.{Reader, next, pure, rowsOf}
 use Rattle.again.specs.Again.{Then, Taken, many, Takes}
 use Rattle.again.proofs.Then.{then-next}
+use Rattle.again.proofs.Puts.{singles, joined-same}
 
 pub many-takes : {P A : Type 0} (view : P → List Tok) (f : P → Taken P A) (r : Reader A) (size : ℕ) → Takes view f r → (n : ℕ) → Takes view (many f n) (rowsOf size r n)
 unfolding rowsOf many
@@ -81,3 +82,17 @@ module _ {S W : Type 0} (put : S → ℕ → List W → S) where
                   ∙ append (words (f p .thing)) rest cur i (i + w) (omega arith) ∙ ap (λ m. put cur i (joined (map words (many f m p .thing)))) z ∙ g .same;
               ends = ap (λ q. many f (left - 1) q .next) a ∙ ap (λ m. many f m p .next) z ∙ g .ends;
             }
+
+    -- things that are one word each
+    module _ {P : Type 0} (f : P → Taken P W) (p₀ : P) (n k : ℕ) (old : S) (p : P) (left i : ℕ) (cur : S) (g : Going f (λ v. v ∷ []) 1 p₀ n k old p left i cur) where
+      pub single-more : (p′ : P) (cur′ : S) → 0 < left → p′ ≡ many f 1 p .next → cur′ ≡ put cur i (many f 1 p .thing) → Going f (λ v. v ∷ []) 1 p₀ n k old p′ (left - 1) (i + 1) cur′
+      unfolding many
+      single-more p′ cur′ l a b = going-more f (λ v. v ∷ []) 1 p₀ n k old p left i cur g p′ cur′ l a b refl
+
+      pub single-end : left ≤ 0 → (cur ≡ put old k (many f n p₀ .thing)) × (p ≡ many f n p₀ .next)
+      single-end l = let e = going-end f (λ v. v ∷ []) 1 p₀ n k old p left i cur g l in (e .0 ∙ ap (put old k) (singles (many f n p₀ .thing)), e .1)
+
+    -- things that are rows
+    module _ {P : Type 0} (f : P → Taken P (List W)) (w : ℕ) (p₀ : P) (n k : ℕ) (old : S) (p : P) (left i : ℕ) (cur : S) (g : Going f (λ row. row) w p₀ n k old p left i cur) where
+      pub row-end : left ≤ 0 → cur ≡ put old k (joined (many f n p₀ .thing))
+      row-end l = going-end f (λ row. row) w p₀ n k old p left i cur g l .0 ∙ ap (put old k) (joined-same (many f n p₀ .thing))

@@ -1,15 +1,12 @@
 -- Words stored one behind the other, rows padded and joined. Assumes nothing.
-use Prim.Native.Nat.{ℕ, zero, suc, _+_, _-_, _*_, _≤_, _<_}
+use Prim.Native.Nat.{ℕ, zero, suc, _+_, _-_, _≤_}
 use native.Mathlib.Omega.{arith}
-use native.Mathlib.Nat.{add-zero, mul-add}
-use mathlib.Core.Path.{_≡_, refl, sym, _∙_, ap}
+use mathlib.Core.Path.{_≡_, refl, _∙_, ap}
 use mathlib.Core.List.{List, [], _∷_, _++_, map}
-use lib.IntN.{ℤ, pos}
-use lib.ListN.{length, set, take, replicate}
+use lib.ListN.{length, take, replicate}
 use lib.Seq.{sets}
 use Rattle.facts.proofs.Sets.{sets-append}
 use Rattle.layout.specs.Rows.{joined, pad}
-use Rattle.layout.specs.Items.{Pair}
 
 module _ {A : Type 0} where
   -- the seam given by an equation
@@ -34,6 +31,11 @@ module _ {A : Type 0} where
   pub singles : (xs : List A) → joined (map (λ v. v ∷ []) xs) ≡ xs
   singles [] = refl
   singles (x ∷ xs) = ap (λ r. x ∷ r) (singles xs)
+
+  -- rows as they are
+  pub joined-same : (xs : List (List A)) → joined (map (λ row. row) xs) ≡ joined xs
+  joined-same [] = refl
+  joined-same (x ∷ xs) = ap (λ r. x ++ r) (joined-same xs)
 
   pub repeated : (a : A) (n : ℕ) → joined (replicate n (a ∷ [])) ≡ replicate n a
   repeated a zero = refl

@@ -1,7 +1,7 @@
 -- Rows read as things and rows read as words are the same rows. Assumes nothing.
 use Prim.Native.Nat.{ℕ, zero, suc}
 use mathlib.Core.Path.{_≡_, refl, _∙_, ap, subst}
-use mathlib.Core.List.{List, [], _∷_, map}
+use mathlib.Core.List.{List, _∷_, map}
 use Rattle.tokens.specs.Listed.{Tok}
 use Rattle.layout.specs.Reading.{Got, got, bad, Reader, next, pure, rowsOf, enclosedOf, leftOf, rightOf}
 use Rattle.again.specs.Again.{Then}

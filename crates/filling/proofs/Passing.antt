@@ -3,14 +3,14 @@ use Prim.Native.Nat.{ℕ, zero, suc, _+_, _-_, _*_, _≤_}
 use native.Mathlib.Omega.{arith}
 use native.Mathlib.Nat.{min-eq-left}
 use mathlib.Core.Path.{_≡_, refl, sym, _∙_, ap, subst}
-use mathlib.Core.List.{List, [], _∷_, map, List·Memᴰ, List·Memᴰ·not-nil, List·Memᴰ·cases-cons}
+use mathlib.Core.List.{List, [], _∷_, map, List·Memᴰ·not-nil, List·Memᴰ·cases-cons}
 use mathlib.Core.Bool.{Bool, true, false, _||_, false≢true}
 use borrow.Author.Tests.{ne-eqb, ltb-false, le-ltb}
 use lib.Dec.{ltb, eqb}
 use lib.ListN.{length, replicate}
 use lib.Seq.{sets}
 use Rattle.facts.proofs.Branch.{either}
-use Rattle.facts.proofs.Decides.{either-of}
+use Rattle.facts.proofs.Decides.{either-of, or-none}
 use Rattle.mesh.specs.declared.Zone.{Zone}
 use Rattle.mesh.specs.Rows.{places, nodeWords}
 use Rattle.tokens.specs.Listed.{Tok, tokensFrom}
@@ -149,10 +149,6 @@ form-mixed e b p q = rw (faceForm, sym p ∙ q)
 
 pub form-facing : (e : ℕ) (b : Bool) → b ≡ (eqb e 0 || ltb places e) → b ≡ false → Form.Facing e ≡ faceForm e
 form-facing e b p q = rw (faceForm, sym p ∙ q)
-
-or-none : (a b : Bool) → (a || b) ≡ false → (a ≡ false) × (b ≡ false)
-or-none true b h = absurd (false≢true (sym h))
-or-none false b h = (refl, h)
 
 pub form-placed : (e : ℕ) → Placed (faceForm e)
 form-placed e = either Placed (eqb e 0 || ltb places e) (λ _. tt) (λ q. ltb-false places e (or-none (eqb e 0) (ltb places e) q .1))

@@ -2,7 +2,6 @@
 use Prim.Native.Nat.{ℕ}
 use mathlib.Core.Path.{_≡_, refl, sym, _∙_, ap}
 use mathlib.Core.List.{List}
-use lib.ListN.{length}
 use Rattle.layout.specs.Reading as R
 use Rattle.layout.specs.Reading.{Got}
 use Rattle.spots.specs.declared.Bad.{Bad}

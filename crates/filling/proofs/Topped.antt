@@ -1,10 +1,7 @@
 -- Headers as zone records, and a record's six words. Assumes nothing.
-use Prim.Native.Nat.{ℕ, _≤_, _<_}
-use native.Mathlib.Omega.{arith}
+use Prim.Native.Nat.{ℕ}
 use mathlib.Core.Path.{_≡_, refl, sym, _∙_, ap, subst}
 use mathlib.Core.List.{List}
-use lib.ListN.{length}
-use Rattle.tokens.specs.Listed.{tokensFrom}
 use Rattle.layout.specs.Items as Items
 use Rattle.layout.specs.Rows.{elementIn, zoneOf}
 use Rattle.layout.specs.Reading.{Got}

@@ -2,22 +2,18 @@
 -- neither of two tests
 use Prim.Native.Nat.{ℕ, zero, suc, _≤_}
 use native.Mathlib.Omega.{arith}
-use mathlib.Core.Path.{_≡_, refl, sym, _∙_}
+use mathlib.Core.Path.{_≡_, sym, _∙_}
 use mathlib.Core.List.{List, [], _∷_}
 use mathlib.Core.Bool.{Bool, true, false, not, _||_, or-false}
 use borrow.Author.Tests.{eq-eqb, ne-eqb, eqb-true, eqb-false, le-leb, leb-true, not-false}
 use lib.Dec.{eqb, leb}
 use lib.ListN.{length, take, getD}
-use Rattle.facts.proofs.Branch.{split, differ}
-use Rattle.facts.proofs.Decides.{and-split, or-left, or-right, or-split, either-of}
+use Rattle.facts.proofs.Branch.{split}
+use Rattle.facts.proofs.Decides.{and-split, or-left, or-right, or-split, either-of, or-none}
 use Rattle.mesh.specs.declared.Face.{Face}
 use Rattle.faults.specs.declared.Frame.{Frame}
 use Rattle.faults.specs.Over.{anyOf}
 use Rattle.faults.specs.Faults.{lookedAt, positionsOf, wrongCount, wrongNode, isIn, hasFault, anyOfKind, nodeFault}
-
-or-off : (a b : Bool) → (a || b) ≡ false → (a ≡ false) × (b ≡ false)
-or-off true b h = differ true refl h
-or-off false b h = (refl, h)
 
 -- something of a list of four
 pub by-four : (P : List ℕ → Type 0) → ((a b c d : ℕ) → P (a ∷ b ∷ c ∷ d ∷ [])) → (l : List ℕ) → length l ≡ 4 → P l
@@ -111,8 +107,8 @@ module _ (dim nodes count : ℕ) where
     row-flat : pairTest row ≡ false → dim ≡ 2 → not (eqb count 2) ≡ within row
     unfolding anyOf isIn wrongCount lookedAt
     row-flat t e =
-        let p = or-off (eqb a b) (wrongNode nodes a || wrongNode nodes b) t in
-        let q = or-off (wrongNode nodes a) (wrongNode nodes b) (p .1) in
+        let p = or-none (eqb a b) (wrongNode nodes a || wrongNode nodes b) t in
+        let q = or-none (wrongNode nodes a) (wrongNode nodes b) (p .1) in
         flat (p .0) (q .0) (q .1)
       where
         flat : eqb a b ≡ false → wrongNode nodes a ≡ false → wrongNode nodes b ≡ false → not (eqb count 2) ≡ within row
@@ -124,10 +120,10 @@ module _ (dim nodes count : ℕ) where
     row-3 : pairTest row ≡ false → (dim ≡ 2 → ⊥) → thirdTest row ≡ false → count ≡ 3 → false ≡ within row
     unfolding anyOf isIn wrongCount lookedAt
     row-3 t e u k =
-        let p = or-off (eqb a b) (wrongNode nodes a || wrongNode nodes b) t in
-        let q = or-off (wrongNode nodes a) (wrongNode nodes b) (p .1) in
-        let v = or-off (wrongNode nodes c) (eqb a c || eqb b c) u in
-        let w = or-off (eqb a c) (eqb b c) (v .1) in
+        let p = or-none (eqb a b) (wrongNode nodes a || wrongNode nodes b) t in
+        let q = or-none (wrongNode nodes a) (wrongNode nodes b) (p .1) in
+        let v = or-none (wrongNode nodes c) (eqb a c || eqb b c) u in
+        let w = or-none (eqb a c) (eqb b c) (v .1) in
         three (p .0) (q .0) (q .1) (v .0) (w .0) (w .1)
       where
         three : eqb a b ≡ false → wrongNode nodes a ≡ false → wrongNode nodes b ≡ false → wrongNode nodes c ≡ false → eqb a c ≡ false → eqb b c ≡ false
@@ -137,10 +133,10 @@ module _ (dim nodes count : ℕ) where
     row-4 : pairTest row ≡ false → (dim ≡ 2 → ⊥) → thirdTest row ≡ false → count ≡ 4 → fourthTest row ≡ within row
     unfolding anyOf isIn wrongCount lookedAt
     row-4 t e u k =
-        let p = or-off (eqb a b) (wrongNode nodes a || wrongNode nodes b) t in
-        let q = or-off (wrongNode nodes a) (wrongNode nodes b) (p .1) in
-        let v = or-off (wrongNode nodes c) (eqb a c || eqb b c) u in
-        let w = or-off (eqb a c) (eqb b c) (v .1) in
+        let p = or-none (eqb a b) (wrongNode nodes a || wrongNode nodes b) t in
+        let q = or-none (wrongNode nodes a) (wrongNode nodes b) (p .1) in
+        let v = or-none (wrongNode nodes c) (eqb a c || eqb b c) u in
+        let w = or-none (eqb a c) (eqb b c) (v .1) in
         more (p .0) (q .0) (q .1) (v .0) (w .0) (w .1)
       where
         more : eqb a b ≡ false → wrongNode nodes a ≡ false → wrongNode nodes b ≡ false → wrongNode nodes c ≡ false → eqb a c ≡ false → eqb b c ≡ false

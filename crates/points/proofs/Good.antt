@@ -1,14 +1,13 @@
 -- On a good file the node rows that are stored are those that the text says. Assumes nothing.
 use Prim.Native.Nat.{ℕ, zero, suc, _≤_}
-use native.Mathlib.Omega.{arith}
 use native.Mathlib.Nat.{min-le-right}
 use mathlib.Core.Path.{_≡_, refl, sym, ap, subst, _∙_}
-use mathlib.Core.List.{List, [], _∷_, map}
+use mathlib.Core.List.{List, _∷_, map}
 use Rattle.mesh.specs.Rows.{nodeWords}
 use Rattle.tokens.specs.Listed.{Tok}
 use Rattle.layout.specs.Items.{Pair}
 use Rattle.layout.specs.Rows.{joined, pad}
-use Rattle.layout.specs.Reading.{Got, got, bad, Reader, next, pure, pairWord, rowsOf}
+use Rattle.layout.specs.Reading.{Got, got, bad, next, pairWord, rowsOf}
 use Rattle.again.specs.Again.{Then, Taken, many, Takes}
 use Rattle.again.proofs.Then.{then-more}
 use Rattle.again.proofs.Many.{many-takes}

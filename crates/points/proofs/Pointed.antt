@@ -12,15 +12,15 @@ use Rattle.facts.proofs.Decides.{either-of}
 use Rattle.mesh.specs.Rows.{nodeWords}
 use Rattle.tokens.specs.Listed.{Tok, tokensFrom}
 use Rattle.layout.specs.Items as Items
-use Rattle.layout.specs.Rows.{joined, pad}
+use Rattle.layout.specs.Rows.{joined}
 use Rattle.layout.specs.Reading.{Got, got, bad, pairWord}
 use Rattle.layout.proofs.Formed.{pad-length}
 use Rattle.spots.specs.declared.Bad.{Bad}
 use Rattle.steps.specs.declared.step.Pair.{Pair}
 use Rattle.steps.specs.Views.{pairView, PairAt}
-use Rattle.again.specs.Again.{Taken, many}
-use Rattle.again.proofs.Puts.{pad-is, singles, repeated}
-use Rattle.again.proofs.Many.{Going, many-length, going-start, going-more, going-end}
+use Rattle.again.specs.Again.{many}
+use Rattle.again.proofs.Puts.{pad-is, repeated}
+use Rattle.again.proofs.Many.{Going, many-length, going-start, going-more, single-more, single-end, row-end}
 use Rattle.points.specs.declared.pair.Coordinate.{Coordinate}
 use Rattle.points.specs.Points.{Both, setPairs, origin, takenBy, pairTaken, pairsTaken, pointTaken, pointsTaken, coordinatesIn, Took, Puts}
 
@@ -64,13 +64,10 @@ module _ (s : List ℕ) (at n k : ℕ) (old : Both) where
 
   module _ (c left i : ℕ) (cur : Both) (g : Pairing s at n k old c left i cur) where
     pub pairing-more : (c′ : ℕ) (cur′ : Both) → 0 < left → Puts s (pairsTaken (length s) 1 (tokensFrom s c)) i cur cur′ c′ → Pairing s at n k old c′ (left - 1) (i + 1) cur′
-    unfolding many
-    pairing-more c′ cur′ l h = going-more setPairs no-pairs pairs-behind (pairTaken (length s)) (λ p. p ∷ []) 1 (tokensFrom s at) n k old (tokensFrom s c) left i cur g (tokensFrom s c′) cur′ l (h .1) (h .0) refl
+    pairing-more c′ cur′ l h = single-more setPairs no-pairs pairs-behind (pairTaken (length s)) (tokensFrom s at) n k old (tokensFrom s c) left i cur g (tokensFrom s c′) cur′ l (h .1) (h .0)
 
     pub pairing-end : left ≤ 0 → Puts s (pairsTaken (length s) n (tokensFrom s at)) k old cur c
-    pairing-end l =
-        let e = going-end setPairs no-pairs pairs-behind (pairTaken (length s)) (λ p. p ∷ []) 1 (tokensFrom s at) n k old (tokensFrom s c) left i cur g l in
-        (e .0 ∙ ap (setPairs old k) (singles (pairsTaken (length s) n (tokensFrom s at) .thing)), e .1)
+    pairing-end l = single-end setPairs no-pairs pairs-behind (pairTaken (length s)) (tokensFrom s at) n k old (tokensFrom s c) left i cur g l
 
 -- ---- 0, 0
 abbrev pub naught : List Items.Pair
@@ -94,10 +91,6 @@ point-put s ts d k j to old mid new l i h q =
       h .1,
     )
 
-same-rows : (xs : List (List Items.Pair)) → joined (map (λ row. row) xs) ≡ joined xs
-same-rows [] = refl
-same-rows (x ∷ xs) = ap (λ r. x ++ r) (same-rows xs)
-
 abbrev pub Pointing : List ℕ → ℕ → ℕ → ℕ → ℕ → Both → ℕ → ℕ → ℕ → Both → Type 0
 Pointing s d at n k old c left i cur = Going setPairs (λ us. pointTaken (length s) d us) (λ row. row) 3 (tokensFrom s at) n k old (tokensFrom s c) left i cur
 
@@ -113,9 +106,7 @@ module _ (s : List ℕ) (d at n k : ℕ) (old : Both) where
 
     pub pointing-end : left ≤ 0 → cur ≡ setPairs old k (pointsTaken (length s) d n (tokensFrom s at))
     unfolding pointsTaken
-    pointing-end l =
-        going-end setPairs no-pairs pairs-behind (λ us. pointTaken (length s) d us) (λ row. row) 3 (tokensFrom s at) n k old (tokensFrom s c) left i cur g l .0
-        ∙ ap (setPairs old k) (same-rows (many (λ us. pointTaken (length s) d us) n (tokensFrom s at) .thing))
+    pointing-end l = row-end setPairs no-pairs pairs-behind (λ us. pointTaken (length s) d us) 3 (tokensFrom s at) n k old (tokensFrom s c) left i cur g l
 
 pub points-by : (size d w : ℕ) (n : ℕ) (ts : List Tok) (k : ℕ) (old : Both) {new : Both} → w ≡ coordinatesIn d → new ≡ setPairs old k (pointsTaken size w n ts) → new ≡ setPairs old k (pointsTaken size (coordinatesIn d) n ts)
 points-by size d w n ts k old e h = h ∙ ap (λ y. setPairs old k (pointsTaken size y n ts)) e

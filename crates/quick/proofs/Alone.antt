@@ -19,7 +19,6 @@ use Rattle.numbers.specs.declared.whole.Whole.{Whole}
 use Rattle.numbers.specs.Whole.{hexadecimalOf}
 use Rattle.numbers.proofs.Wholes.{wholeOf-exact}
 use Rattle.quick.specs.declared.words.Quick.{Quick}
-use Rattle.quick.specs.declared.words.Known.{Known}
 use Rattle.quick.specs.Quick.{figureOf, digitHex, knownOf}
 use Rattle.quick.proofs.Figures.{figured}
 use Rattle.quick.proofs.Knowing.{known-word}

@@ -1,18 +1,14 @@
 -- The layout's theorems, of the calls: what their contracts come to. Assumes nothing.
 use Prim.Native.Nat.{ℕ}
-use mathlib.Core.Path.{_≡_, refl, sym, ap, subst, _∙_}
+use mathlib.Core.Path.{_≡_, sym, ap, _∙_}
 use mathlib.Core.Logic.{_↔_}
-use mathlib.Core.List.{List}
-use lib.ListN.{length}
 use contract.Lifetimes.{Lfts}
 use denote.Ref.{now}
 use denote.Triple.Entry.{Args, Res}
 use denote.Triple.Clauses.{AtExit}
-use Rattle.mesh.specs.declared.Zone.{Zone}
 use Rattle.layout.specs.declared.Refusal.{Refusal}
 use Rattle.layout.specs.declared.Reply.{Reply}
 use Rattle.layout.specs.Replies.{Points}
-use Rattle.layout.specs.Rows.{Lent}
 use Rattle.layout.specs.Says.{Mesh, Says}
 use Rattle.layout.specs.Read.{Result, readOf}
 use Rattle.layout.proofs.Exactly.{acceptedAs, readOf-exactly, one-mesh}

@@ -1,11 +1,10 @@
 -- On a good file the words and rows that are stored are those that the text says. Assumes nothing.
-use Prim.Native.Nat.{ℕ, _+_, _-_, _≤_}
-use native.Mathlib.Omega.{arith}
+use Prim.Native.Nat.{ℕ, _-_, _≤_}
 use mathlib.Core.Path.{_≡_, refl, sym, ap, subst, _∙_}
-use mathlib.Core.List.{List, [], _∷_, map}
-use mathlib.Core.Bool.{Bool, true, false, _&&_}
+use mathlib.Core.List.{List, [], _∷_}
+use mathlib.Core.Bool.{_&&_}
 use borrow.Author.Tests.{le-ltb}
-use lib.Dec.{ltb, leb}
+use lib.Dec.{leb}
 use lib.ListN.{length, take, drop}
 use Rattle.facts.proofs.Decides.{and-is, le-is}
 use Rattle.mesh.specs.Rows.{places}
@@ -18,15 +17,14 @@ use Rattle.numbers.specs.declared.whole.Whole.{Whole}
 use Rattle.numbers.specs.declared.sort.Sort.{Sort}
 use Rattle.numbers.specs.Whole.{hexadecimalOf}
 use Rattle.layout.specs.declared.Refusal.{Refusal}
-use Rattle.layout.specs.Items.{Facet}
 use Rattle.layout.specs.Rows.{joined, faceRow}
 use Rattle.layout.specs.Reading as R
-use Rattle.layout.specs.Reading.{Got, got, bad, Reader, next, pure, wordOf, numbered, hexWord, rowsOf}
+use Rattle.layout.specs.Reading.{Reader, next, pure, wordOf, numbered, hexWord, rowsOf}
 use Rattle.layout.specs.Sections.{hexOf, elementOf, facingOf, mixedOf}
 use Rattle.quick.specs.declared.words.Known.{Known}
 use Rattle.quick.specs.Quick.{knownOf}
 use Rattle.quick.proofs.Knowing.{known-word}
-use Rattle.again.specs.Again.{Then, Taken, many, Takes}
+use Rattle.again.specs.Again.{Then, many, Takes}
 use Rattle.again.proofs.Then.{then-more, then-next, then-pure, then-check}
 use Rattle.again.proofs.Many.{many-takes}
 use Rattle.rows.specs.declared.row.Form.{Form}

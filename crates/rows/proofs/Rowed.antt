@@ -2,8 +2,7 @@
 use Prim.Native.Nat.{ℕ, suc, _+_, _-_, _*_, _^_, _≤_, _<_}
 use native.Mathlib.Omega.{arith}
 use mathlib.Core.Path.{_≡_, refl, sym, _∙_, ap, subst}
-use mathlib.Core.List.{List, [], _∷_, _++_, map}
-use mathlib.Core.Bool.{Bool, true, false}
+use mathlib.Core.List.{List, [], _∷_, _++_}
 use borrow.Author.Tests.{ltb-false}
 use lib.Dec.{ltb}
 use lib.ListN.{length, set, replicate, length-append}
@@ -15,9 +14,9 @@ use Rattle.layout.specs.Rows.{joined, pad, faceRow}
 use Rattle.layout.proofs.Formed.{pad-length}
 use Rattle.quick.specs.declared.words.Known.{Known}
 use Rattle.quick.specs.Quick.{knownOf}
-use Rattle.again.specs.Again.{Taken, many}
+use Rattle.again.specs.Again.{many}
 use Rattle.again.proofs.Puts.{sets-behind, pad-is}
-use Rattle.again.proofs.Many.{Going, many-length, going-start, going-more, going-end}
+use Rattle.again.proofs.Many.{Going, many-length, going-start, going-more, row-end}
 use Rattle.rows.specs.declared.row.Form.{Form}
 use Rattle.rows.specs.Words.{wordsAt, Puts}
 use Rattle.rows.specs.Rows.{cornersOf, facetAt, facingAt, mixedAt, elementAt, rowAt, widthOf, rowsAt, sameRows}
@@ -92,10 +91,6 @@ row-room (Form.Facing m) i left k n e h l = (omega arith, omega arith)
 row-room Form.Mixed i left k n e h l = (omega arith, omega arith)
 row-room Form.Element i left k n e h l = (omega arith, omega arith)
 
-same-rows : (xs : List (List ℕ)) → joined (map (λ row. row) xs) ≡ joined xs
-same-rows [] = refl
-same-rows (x ∷ xs) = ap (λ r. x ++ r) (same-rows xs)
-
 abbrev pub Filing : List ℕ → Form → ℕ → ℕ → ℕ → ℕ → List ℕ → ℕ → ℕ → ℕ → List ℕ → Type 0
 Filing s form t at n k old c left i cur = Going sets (λ p. rowAt s form t p) (λ row. row) (widthOf form) at n k old c left i cur
 
@@ -111,5 +106,4 @@ module _ (s : List ℕ) (form : Form) (t at n k : ℕ) (old : List ℕ) where
 
     pub filing-end : left ≤ 0 → cur ≡ sets old k (rowsAt s form t n at)
     unfolding rowsAt
-    filing-end l =
-        going-end sets none-set sets-behind (λ p. rowAt s form t p) (λ row. row) (widthOf form) at n k old c left i cur g l .0 ∙ ap (sets old k) (same-rows (many (λ p. rowAt s form t p) n at .thing))
+    filing-end l = row-end sets none-set sets-behind (λ p. rowAt s form t p) (widthOf form) at n k old c left i cur g l

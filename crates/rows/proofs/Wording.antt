@@ -3,7 +3,7 @@ use Prim.Native.Nat.{ℕ, _+_, _-_, _≤_, _<_}
 use native.Mathlib.Omega.{arith}
 use mathlib.Core.Path.{_≡_, refl, sym, _∙_, ap, subst}
 use mathlib.Core.List.{List, [], _∷_}
-use lib.ListN.{length, set, replicate}
+use lib.ListN.{set, replicate}
 use lib.Seq.{sets}
 use Rattle.layout.specs.Rows.{joined}
 use Rattle.quick.specs.declared.words.Known.{Known}
@@ -11,8 +11,8 @@ use Rattle.twos.specs.declared.Two.{Two}
 use Rattle.quick.specs.Quick.{knownOf}
 use Rattle.twos.specs.Twos.{TwoSays}
 use Rattle.again.specs.Again.{many}
-use Rattle.again.proofs.Puts.{sets-behind, singles, repeated}
-use Rattle.again.proofs.Many.{Going, going-start, going-more, going-end}
+use Rattle.again.proofs.Puts.{sets-behind, repeated}
+use Rattle.again.proofs.Many.{Going, going-start, single-more, single-end}
 use Rattle.rows.specs.Words.{wordAt, wordsAt, Puts, TwoLeft}
 
 pub none-set : (o : List ℕ) (k : ℕ) → sets o k [] ≡ o
@@ -39,13 +39,10 @@ module _ (s : List ℕ) (at n k : ℕ) (old : List ℕ) where
 
   module _ (c left i : ℕ) (cur : List ℕ) (g : Wording s at n k old c left i cur) where
     pub wording-more : (c′ : ℕ) (cur′ : List ℕ) → 0 < left → Puts (wordsAt s 1 c) i cur cur′ c′ → Wording s at n k old c′ (left - 1) (i + 1) cur′
-    unfolding many
-    wording-more c′ cur′ l h = going-more sets none-set sets-behind (wordAt s) (λ v. v ∷ []) 1 at n k old c left i cur g c′ cur′ l (h .1) (h .0) refl
+    wording-more c′ cur′ l h = single-more sets none-set sets-behind (wordAt s) at n k old c left i cur g c′ cur′ l (h .1) (h .0)
 
     pub wording-end : left ≤ 0 → Puts (wordsAt s n at) k old cur c
-    wording-end l =
-        let e = going-end sets none-set sets-behind (wordAt s) (λ v. v ∷ []) 1 at n k old c left i cur g l in
-        (e .0 ∙ ap (sets old k) (singles (wordsAt s n at .thing)), e .1)
+    wording-end l = single-end sets none-set sets-behind (wordAt s) at n k old c left i cur g l
 
 -- ---- two words found together
 pub left-two : (s : List ℕ) (at left : ℕ) (t : Two) → 2 ≤ left → TwoSays s at t → TwoLeft s at left t

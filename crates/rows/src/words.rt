@@ -1,6 +1,5 @@
 // Words of a file, stored one behind the other.
 ghost use mathlib.Core.Path.{_≡_};
-ghost use mathlib.Core.List.{[], _∷_};
 ghost use Prim.Native.Nat.{_≤_, _^_};
 ghost use lib.ListN.{replicate};
 ghost use lib.Seq.{sets};

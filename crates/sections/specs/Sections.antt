@@ -1,11 +1,11 @@
 -- Sections with their bodies left out, and the code's answers as theirs. Assumes nothing.
-use Prim.Native.Nat.{ℕ, zero, suc, _≤_, _<_}
+use Prim.Native.Nat.{ℕ, _≤_, _<_}
 use mathlib.Core.Path.{_≡_}
-use mathlib.Core.List.{List, [], _∷_}
-use mathlib.Core.Bool.{Bool, true, false, _||_}
-use lib.Dec.{ltb, eqb}
+use mathlib.Core.List.{List}
+use mathlib.Core.Bool.{Bool}
+use lib.Dec.{eqb}
 use lib.ListN.{length}
-use Rattle.tokens.specs.Listed.{Tok, tokensFrom}
+use Rattle.tokens.specs.Listed.{tokensFrom}
 use Rattle.layout.specs.declared.Refusal.{Refusal}
 use Rattle.layout.specs.Items as Items
 use Rattle.layout.specs.Keeps as Keeps
@@ -13,11 +13,8 @@ use Rattle.layout.specs.State as St
 use Rattle.layout.specs.State.{every, clear, dimAfter, dimListed, dimAgrees}
 use Rattle.layout.specs.Reading.{Got, got, bad, Reader, next, _>>=_, _>>_, pure, check, choose, rightOf}
 use Rattle.layout.specs.Sections.{headerOf, bodyOf, twoOf, kindOf, otherOf}
-use Rattle.spots.specs.declared.Bad.{Bad}
 use Rattle.spots.specs.declared.Kind.{Kind}
-use Rattle.spots.specs.declared.Fifth.{Fifth}
 use Rattle.spots.specs.declared.Head.{Head}
-use Rattle.sofar.specs.declared.Seen.{Seen}
 use Rattle.sofar.specs.declared.State.{State}
 use Rattle.sofar.specs.declared.Room.{Room}
 use Rattle.judging.specs.declared.judge.Judged.{Judged}

@@ -1,9 +1,7 @@
 use Rattle.rows.proofs.Rowed.{two-put, same-put}
-use mathlib.Core.Path.{_≡_, refl, _∙_, ap}
-use native.Mathlib.Numerals.{add-one}
-use Prim.Native.Nat.{suc, _+_}
+use mathlib.Core.Path.{_≡_, refl, _∙_}
 use mathlib.Core.List.{[], _∷_}
-use lib.ListN.{length, set}
+use lib.ListN.{length}
 use Rattle.again.proofs.Many.{Repeating, repeat-start, repeat-more, repeat-end}
 use Rattle.again.proofs.Puts.{sets-behind}
 use lib.Seq.{sets}
