@@ -5,6 +5,7 @@ use mathlib.Core.Path.{_≡_, refl, _∙_, ap}
 use mathlib.Core.List.{List, [], _∷_, _++_, map}
 use lib.ListN.{length, take, replicate}
 use lib.Seq.{sets}
+use Rattle.facts.proofs.Maps.{map-append}
 use Rattle.facts.proofs.Sets.{sets-append}
 use Rattle.layout.specs.Rows.{joined, pad}
 
@@ -47,21 +48,17 @@ module _ {A B : Type 0} (f : A → B) where
   map-replicate zero a = refl
   map-replicate (suc n) a = ap (λ r. f a ∷ r) (map-replicate n a)
 
-  map-append : (xs ys : List A) → map f (xs ++ ys) ≡ map f xs ++ map f ys
-  map-append [] ys = refl
-  map-append (x ∷ xs) ys = ap (λ r. f x ∷ r) (map-append xs ys)
-
   map-take : (n : ℕ) (xs : List A) → map f (take n xs) ≡ take n (map f xs)
   map-take zero xs = refl
   map-take (suc n) [] = refl
   map-take (suc n) (x ∷ xs) = ap (λ r. f x ∷ r) (map-take n xs)
 
   map-pad : (n : ℕ) (d : A) (xs : List A) → map f (pad n d xs) ≡ pad n (f d) (map f xs)
-  map-pad n d xs = map-take n (xs ++ replicate n d) ∙ ap (take n) (map-append xs (replicate n d) ∙ ap (λ r. map f xs ++ r) (map-replicate n d))
+  map-pad n d xs = map-take n (xs ++ replicate n d) ∙ ap (take n) (map-append f xs (replicate n d) ∙ ap (λ r. map f xs ++ r) (map-replicate n d))
 
   -- padded rows, one behind the other
   pub map-joined : (n : ℕ) (d : A) (rs : List (List A)) → map f (joined (map (pad n d) rs)) ≡ joined (map (λ r. pad n (f d) (map f r)) rs)
   map-joined n d [] = refl
   map-joined n d (r ∷ rs) =
-      map-append (pad n d r) (joined (map (pad n d) rs)) ∙ ap (λ y. y ++ map f (joined (map (pad n d) rs))) (map-pad n d r)
+      map-append f (pad n d r) (joined (map (pad n d) rs)) ∙ ap (λ y. y ++ map f (joined (map (pad n d) rs))) (map-pad n d r)
       ∙ ap (λ y. pad n (f d) (map f r) ++ y) (map-joined n d rs)

@@ -1,5 +1,5 @@
 -- No second answer, and no second content of what is lent, meets the contracts. Assumes nothing.
-use mathlib.Core.Path.{_≡_, refl, sym, _∙_}
+use mathlib.Core.Path.{refl, sym, _∙_}
 use denote.Ref.{now}
 use Rattle.facts.specs.OnlyLeft.{OnlyLeft}
 use Rattle.answers.proofs.answers.copy_words.Reads as copy-words

@@ -1,6 +1,6 @@
 -- Eight bytes, all of them digits and blanks: what their lanes say of the words. Assumes nothing.
-use Prim.Native.Nat.{ℕ, zero, suc, _+_, _-_, _*_, _/_, _%_, _^_, _≤_, _<_, zero-le}
-use native.Mathlib.Nat.{lt-of-le-of-lt, mod-eq-of-lt, mul-add-mod-self-right, mul-le-mul-right, pow-suc, zero-mul}
+use Prim.Native.Nat.{ℕ, zero, suc, _+_, _-_, _*_, _%_, _^_, _≤_, _<_}
+use native.Mathlib.Nat.{lt-of-le-of-lt, mod-eq-of-lt, mul-add-mod-self-right, pow-suc}
 use native.Mathlib.Omega.{arith}
 use mathlib.Core.Path.{_≡_, refl, sym, ap, ap₂, subst, _∙_}
 use mathlib.Core.List.{List, [], _∷_, _++_, map}
@@ -8,17 +8,15 @@ use mathlib.Core.Bool.{Bool, true, false, not}
 use borrow.Author.Tests.{eqb-true, ltb-true, ltb-false}
 use lib.Dec.{eqb, ltb, lit<, lit≤}
 use lib.ListN.{length, replicate, length-map}
-use lib.Bits.{bitAnd, bitOr, bitXor, and-block, or-block, xor-block, and-le-l, and-le-r, and-lt, or-lt, xor-lt, or-zero-r}
-use lib.Count.{ones, ones-cat, trailingZeros, leadingZeros, leading-top, leading-unique}
-use lib.Pow.{pow-add, pow-pos}
-use Rattle.facts.proofs.Branch.{split, either, differ}
+use lib.Bits.{bitAnd, bitOr, bitXor, and-block, or-block, xor-block, and-le-l, and-lt, or-zero-r}
+use lib.Count.{ones, ones-cat, leadingZeros, leading-top, leading-unique}
+use lib.Pow.{pow-add}
+use Rattle.facts.proofs.Branch.{split, either}
 use Rattle.tokens.specs.Tokens.{isBlank}
-use Rattle.digits.specs.Digits.{digitOf, Digits, digitsIn}
-use Rattle.digits.specs.Lanes.{lanes, Under, Laned, marksOf, unlikeOf}
-use Rattle.digits.proofs.Laning.{Small, sum-apart, lanes-append, lanes-lt}
-use Rattle.digits.proofs.Grouping.{each, each-is, markOf, map-same, small-and, both, same, whole, masked, marks-in, unlike, small-unlike, unlike-in}
-use Rattle.digits.proofs.Gathered.{gathered-count}
-use Rattle.blocks.specs.Blocks.{blanksOf, carryOf, wordsOf, isHex, Plain, one, ends, tail, Fair, Read}
+use Rattle.digits.specs.Lanes.{lanes, Under}
+use Rattle.digits.proofs.Laning.{Small, lanes-append, lanes-lt}
+use Rattle.digits.proofs.Grouping.{each, each-is, map-same, small-and, both, same, whole, masked, unlike, small-unlike, unlike-in}
+use Rattle.blocks.specs.Blocks.{blanksOf, carryOf, wordsOf, isHex, Plain, one, ends, tail}
 
 -- ---- blanks
 abbrev blank : ℕ → ℕ

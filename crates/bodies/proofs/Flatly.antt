@@ -3,7 +3,7 @@ use Prim.Native.Nat.{ℕ, zero, suc, _+_, _*_, _^_, _≤_, _<_}
 use native.Mathlib.Omega.{arith}
 use native.Mathlib.Nat.{suc-mul, zero-mul, mul-le-mul-left}
 use mathlib.Core.Path.{_≡_, refl, sym, _∙_, ap}
-use mathlib.Core.List.{List, [], _∷_}
+use mathlib.Core.List.{List, _∷_}
 use Rattle.tokens.specs.Listed.{Tok}
 use Rattle.layout.specs.Reading.{Got, got, bad, Reader, next, pure, pairWord, rowsOf}
 use Rattle.layout.specs.Sections.{facingOf}

@@ -1,23 +1,21 @@
 -- Rows judged one behind the other. Assumes nothing.
-use Prim.Native.Nat.{ℕ, zero, suc, _-_, _≤_, _<_}
+use Prim.Native.Nat.{ℕ, suc, _-_, _≤_, _<_}
 use native.Mathlib.Omega.{arith}
 use mathlib.Core.Path.{_≡_, refl, sym, _∙_, ap}
-use mathlib.Core.List.{List, [], _∷_}
+use mathlib.Core.List.{List, _∷_}
 use lib.IntN.{ℤ}
 use lib.ListN.{length}
 use Rattle.tokens.specs.Listed.{Tok, tokensFrom}
 use Rattle.layout.specs.declared.Refusal.{Refusal}
-use Rattle.layout.specs.Items as Items
 use Rattle.layout.specs.Reading as R
-use Rattle.layout.specs.Reading.{Got, got, bad, Reader, next, hexWord, pairWord, rowsOf}
-use Rattle.layout.specs.Sections.{hexOf}
+use Rattle.layout.specs.Reading.{Got, got, bad, Reader, next, pairWord, rowsOf}
 use Rattle.spots.specs.declared.Bad.{Bad}
 use Rattle.spots.specs.declared.Past.{Past}
 use Rattle.steps.specs.declared.step.Num.{Num}
 use Rattle.steps.specs.declared.step.Pair.{Pair}
 use Rattle.bodies.specs.declared.rows.Word.{Word}
-use Rattle.steps.specs.Views.{numView, pairView, closeView, NumAhead, CloseAhead, NumAt, PairAt, CloseAt}
-use Rattle.spots.specs.Pasts.{pastView, PastAt}
+use Rattle.steps.specs.Views.{numView, pairView, NumAhead, NumAt, PairAt}
+use Rattle.spots.specs.Pasts.{pastView}
 use Rattle.steps.proofs.Pairing.{Paired}
 use Rattle.bodies.specs.Bodies.{forget, pastOf, wordUnit, NotBefore, LooseAt}
 

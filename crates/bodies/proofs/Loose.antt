@@ -1,16 +1,15 @@
 -- Readers whose things are forgotten, one behind the other. Assumes nothing.
-use Prim.Native.Nat.{ℕ, zero, suc, _≤_, _<_}
+use Prim.Native.Nat.{ℕ, zero, suc, _≤_}
 use native.Mathlib.Omega.{arith}
 use mathlib.Core.Path.{_≡_, refl, sym, _∙_, ap}
-use mathlib.Core.List.{List, [], _∷_}
+use mathlib.Core.List.{List, _∷_}
 use mathlib.Core.Bool.{Bool, true, false, _&&_}
 use lib.Dec.{leb}
 use lib.ListN.{length}
 use Rattle.tokens.specs.Listed.{Tok, tokensFrom}
 use Rattle.layout.specs.declared.Refusal.{Refusal}
-use Rattle.layout.specs.Items.{Facet}
 use Rattle.layout.specs.Reading as R
-use Rattle.layout.specs.Reading.{Got, got, bad, Reader, next, pure, check, hexWord, leftOf, rightOf, pairWord, rowsOf, enclosedOf}
+use Rattle.layout.specs.Reading.{Got, got, bad, Reader, next, pure, check, hexWord, leftOf, rightOf, rowsOf, enclosedOf}
 use Rattle.layout.specs.Sections.{hexOf, elementOf, facingOf, mixedOf}
 use Rattle.spots.specs.declared.Bad.{Bad}
 use Rattle.spots.specs.declared.Past.{Past}
@@ -20,7 +19,7 @@ use Rattle.bodies.specs.declared.rows.Word.{Word}
 use Rattle.steps.specs.Views.{closeView, CloseAt, NumAt}
 use Rattle.spots.specs.Pasts.{pastView, PastAt}
 use Rattle.bodies.specs.Bodies.{forget, wordUnit, listedOf, closedOf, NotBefore, LooseAt}
-use Rattle.steps.proofs.Chain.{past-no, past-to, past-ahead, close-no, close-to, close-ahead, num-no, num-to, num-ahead}
+use Rattle.steps.proofs.Chain.{close-ahead, num-no, num-to, num-ahead}
 use Rattle.bodies.proofs.Forgotten.{dropped}
 
 pub later : (at n : ℕ) (y : Past) → at ≤ n → NotBefore n y → NotBefore at y

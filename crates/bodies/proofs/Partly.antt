@@ -1,12 +1,11 @@
 -- Words read in blocks: the bytes one by one, a word where a blank stands behind digits. Assumes nothing.
-use Prim.Native.Nat.{ℕ, zero, suc, _+_, _-_, _*_, _≤_, _<_, zero-le}
-use native.Mathlib.Nat.{le-trans}
+use Prim.Native.Nat.{ℕ, zero, suc, _+_, _-_, _≤_, _<_, zero-le}
 use native.Mathlib.Omega.{arith}
-use mathlib.Core.Path.{_≡_, refl, sym, ap, ap₂, subst, _∙_}
-use mathlib.Core.List.{List, [], _∷_, _++_, append-assoc, append-nil}
+use mathlib.Core.Path.{_≡_, refl, sym, ap, subst, _∙_}
+use mathlib.Core.List.{List, [], _∷_, _++_, append-assoc}
 use mathlib.Core.Bool.{Bool, true, false, not, _&&_}
 use borrow.Author.Tests.{ltb-true, le-leb, lt-leb, leb-true, leb-false}
-use lib.Dec.{ltb, leb}
+use lib.Dec.{leb}
 use lib.ListN.{length, take, drop, getD, length-append, length-drop, length-take, take-append-drop}
 use lib.Seq.{drop-drop, getD-drop, take-append-add, length-take-le}
 use Rattle.facts.proofs.Branch.{split}
@@ -15,10 +14,8 @@ use Rattle.tokens.specs.Tokens.{isBlank, startOf}
 use Rattle.tokens.specs.Listed.{tokensFrom}
 use Rattle.tokens.proofs.Blanked.{blank-on, blank-ends, start-here}
 use Rattle.layout.specs.Reading.{Reader, rowsOf}
-use Rattle.numbers.specs.declared.whole.Whole.{Whole}
 use Rattle.digits.specs.declared.quick.Hexes.{Hexes}
 use Rattle.digits.specs.Digits.{digitOf, Figures, worth}
-use Rattle.numbers.specs.Whole.{hexadecimalOf}
 use Rattle.digits.specs.Hexes.{hexesOf}
 use Rattle.digits.specs.Lanes.{Laned}
 use Rattle.digits.proofs.Digits.{Begins, NoDigit, figures-append}

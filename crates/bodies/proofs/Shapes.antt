@@ -7,7 +7,7 @@ use lib.ListN.{length}
 use Rattle.tokens.specs.Listed.{Tok, tokensFrom}
 use Rattle.layout.specs.declared.Refusal.{Refusal}
 use Rattle.layout.specs.Items.{Kind, node, cell, face, Perhaps, absent, given, points, elements, facets}
-use Rattle.layout.specs.Reading.{Got, got, bad, Reader, rowsOf, pairWord, enclosedOf}
+use Rattle.layout.specs.Reading.{got, bad, Reader, rowsOf, pairWord, enclosedOf}
 use Rattle.layout.specs.Sections.{elementOf, facingOf, mixedOf, bodyOf}
 use Rattle.spots.specs.declared.Past.{Past}
 use Rattle.spots.specs.declared.Fifth.{Fifth}

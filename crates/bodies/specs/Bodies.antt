@@ -1,12 +1,12 @@
 -- Bodies judged and not kept: what a reader gives, with its value forgotten. Assumes nothing.
-use Prim.Native.Nat.{ℕ, zero, suc, _≤_, _<_}
+use Prim.Native.Nat.{ℕ, zero, suc, _≤_}
 use mathlib.Core.Path.{_≡_}
 use mathlib.Core.List.{List}
 use mathlib.Core.Bool.{_&&_}
 use lib.Dec.{leb}
 use Rattle.layout.specs.declared.Refusal.{Refusal}
 use Rattle.layout.specs.Items.{Kind, node, cell, face, Perhaps, absent, given}
-use Rattle.layout.specs.Reading.{Got, got, bad, Reader, Read, next, _>>=_, _>>_, pure, check, rightOf, hexWord, pairWord, rowsOf}
+use Rattle.layout.specs.Reading.{Got, got, bad, Reader, Read, _>>=_, _>>_, pure, check, rightOf, hexWord, pairWord, rowsOf}
 use Rattle.layout.specs.Sections.{hexOf, elementOf, facingOf, mixedOf}
 use Rattle.spots.specs.declared.Past.{Past}
 use Rattle.steps.specs.declared.step.Num.{Num}

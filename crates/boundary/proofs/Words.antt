@@ -1,14 +1,12 @@
 -- The zone records that were read, as words. Assumes nothing.
-use Prim.Native.Nat.{ℕ, _+_, _*_, _/_, _≤_, zero-le}
+use Prim.Native.Nat.{ℕ, _+_, _*_, _/_, _≤_}
 use native.Mathlib.Omega.{arith}
 use mathlib.Core.Path.{_≡_, refl, sym, ap, _∙_}
-use mathlib.Core.List.{List, [], _∷_, _++_}
+use mathlib.Core.List.{List}
 use lib.ListN.{length, take, drop, replicate, length-replicate}
 use lib.Seq.{sets, sets-eq, take-append-seam, length-sets, length-take-le}
 use Rattle.mesh.specs.declared.Zone.{Zone}
-use Rattle.layout.specs.Items.{Item}
 use Rattle.layout.specs.Rows.{zonesOf, noZone}
-use Rattle.layout.specs.State.{State}
 use Rattle.layout.specs.Replies.{shown}
 use Rattle.layout.specs.Read.{Answer, Result, accepted, refused, answerOf, readOf}
 use Rattle.layout.proofs.Exactly.{zones-length}

@@ -1,7 +1,6 @@
 -- What the reader accepts is within the audit's limits: reading and then auditing is never refused by the audit. Assumes nothing.
 use Prim.Native.Nat.{ℕ, _/_, _≤_, zero-le}
-use native.Mathlib.Omega.{arith}
-use mathlib.Core.Path.{_≡_, refl, sym, _∙_, ap, subst}
+use mathlib.Core.Path.{_≡_, refl, sym, _∙_, subst}
 use mathlib.Core.Logic.{inl, inr}
 use mathlib.Core.List.{List, [], _∷_, _++_, append-assoc}
 use lib.ListN.{length}

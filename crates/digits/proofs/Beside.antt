@@ -1,14 +1,14 @@
 -- Bytes taken side by side, two, four and eight, and the room that sums of lanes have. Assumes nothing.
-use Prim.Native.Nat.{ℕ, zero, suc, _+_, _-_, _*_, _/_, _%_, _^_, _≤_, _<_, zero-le}
+use Prim.Native.Nat.{ℕ, suc, _+_, _-_, _*_, _^_, _≤_, _<_}
 use lib.Pow.{pow-mono}
-use native.Mathlib.Nat.{lt-of-lt-of-le, mul-le-mul-right, mul-comm, zero-mul}
+use native.Mathlib.Nat.{lt-of-lt-of-le, mul-le-mul-right, mul-comm}
 use native.Mathlib.Omega.{arith}
 use mathlib.Core.Path.{_≡_, refl, sym, ap, ap₂, subst, _∙_}
 use mathlib.Core.List.{List, [], _∷_, _++_}
 use lib.ListN.{length, take, drop, getD, length-drop, drop-of-length-le}
 use lib.Seq.{take-add, take-all, drop-drop, drop-cons, length-take-le}
 use lib.Bits.{bitAnd, and-le-r}
-use Rattle.digits.specs.Lanes.{lanes, Under, Laned}
+use Rattle.digits.specs.Lanes.{lanes, Laned}
 use Rattle.digits.proofs.Laning.{under-append, lanes-append, lanes-lt}
 
 pub paired-below : (y z mask base : ℕ) → mask * base + mask < 2 ^ 64 → bitAnd y mask * base + bitAnd z mask < 2 ^ 64

@@ -12,6 +12,7 @@ use lib.Seq.{take-append-seam, length-take-le, take-add}
 use lib.Bits.{bitAnd, bitOr, bitXor, and-block, and-self, and-zero-l, and-le-r, and-mask}
 use lib.Count.{trailingZeros, trailing-of-zero}
 use lib.Pow.{pow-add, high, low, shl-exact}
+use Rattle.facts.proofs.Maps.{map-append}
 use Rattle.facts.proofs.Branch.{either, split}
 use Rattle.facts.proofs.Decides.{and-split}
 use Rattle.digits.specs.declared.couple.Couple.{Couple}
@@ -21,7 +22,7 @@ use Rattle.digits.specs.Couples.{endsOf, endIn, nibblesOf, gapOf, endOf,
 use Rattle.digits.proofs.Digits.{digitsIn-part}
 use Rattle.digits.proofs.Laning.{written, trailing-shift}
 use Rattle.digits.proofs.Grouping.{markOf, value, value-is, marks-in, values-in, folded-in, both, same}
-use Rattle.digits.proofs.Gathered.{zerosOf, passed, stopped, counted, map-append, under-left, written-worth}
+use Rattle.digits.proofs.Gathered.{zerosOf, passed, stopped, counted, under-left, written-worth}
 
 -- ---- what the code computes
 pub ends-are : (x : ℕ) → bitXor (bitAnd (bitOr (x * 2 ^ 1 % 2 ^ 64) (x * 2 ^ 3 % 2 ^ 64)) 0x8080808080808080) 0x8080808080808080 ≡ endsOf x

@@ -1,20 +1,20 @@
 -- What `group_of` answers of some bytes is what `digitsIn` reads of them. Assumes nothing.
-use Prim.Native.Nat.{ℕ, zero, suc, _+_, _-_, _*_, _/_, _%_, _^_, _≤_, _<_, zero-le}
-use native.Mathlib.Nat.{mul-assoc, add-mul, mul-one, mul-zero, zero-mul, mul-suc, mod-eq-of-lt, mul-add-mod-self-right, le-trans}
+use Prim.Native.Nat.{ℕ, zero, suc, _+_, _-_, _*_, _/_, _%_, _^_, _≤_, _<_}
+use native.Mathlib.Nat.{mul-assoc, add-mul, zero-mul, mod-eq-of-lt, mul-add-mod-self-right, le-trans}
 use native.Mathlib.Omega.{arith}
 use mathlib.Core.Path.{_≡_, refl, sym, ap, ap₂, subst, _∙_}
 use mathlib.Core.List.{List, [], _∷_, _++_, map}
 use mathlib.Core.Bool.{Bool, true, false}
-use borrow.Author.Tests.{ltb-true}
 use lib.Dec.{ltb, lit≤}
 use lib.ListN.{length, replicate, length-append, length-replicate, length-map}
 use lib.Count.{trailingZeros, under}
 use lib.Pow.{pow-add, shl-lt}
+use Rattle.facts.proofs.Maps.{map-append}
 use Rattle.facts.proofs.Branch.{either, split}
 use Rattle.digits.specs.declared.group.Group.{Group}
-use Rattle.digits.specs.Digits.{digitOf, Digits, digits, digitsIn, Figures, worth}
+use Rattle.digits.specs.Digits.{digitOf, Digits, digitsIn, Figures, worth}
 use Rattle.digits.specs.Lanes.{lanes, Under, Laned, marksOf, valuesOf, foldedOf, baseOf, groupBy, Grouped}
-use Rattle.digits.proofs.Digits.{Run, digitsIn-part}
+use Rattle.digits.proofs.Digits.{digitsIn-part}
 use Rattle.digits.proofs.Laning.{under-append, under-more, under-zeros, lanes-append, lanes-lt, lanes-zeros, trailing-shift, written, written-zeros}
 use Rattle.digits.proofs.Grouping.{markOf, value, value-is, marks-in, values-in, folded-in}
 
@@ -49,10 +49,6 @@ module _ (hex : Bool) where
       (λ p. rw (p, digitsIn) (ap (λ (z : ℕ). z / 8 + n) (stopped w l) ∙ omega arith))
 
 -- ---- what they write
-pub map-append : (f : ℕ → ℕ) (u v : List ℕ) → map f (u ++ v) ≡ map f u ++ map f v
-map-append f [] v = refl
-map-append f (b ∷ u) v = ap (λ l. f b ∷ l) (map-append f u v)
-
 pub under-left : (n : ℕ) (u v : List ℕ) → Under n (u ++ v) → Under n u
 under-left n [] v b = tt
 under-left n (x ∷ u) v b = (b .0, under-left n u v (b .1))

@@ -1,9 +1,9 @@
 -- Digits among eight bytes, looked at at once: where no digit stands, what the others are worth, and the number that they write. Assumes nothing.
-use Prim.Native.Nat.{ℕ, zero, suc, _+_, _-_, _*_, _/_, _%_, _^_, _≤_, _<_, zero-le}
+use Prim.Native.Nat.{ℕ, zero, suc, _+_, _-_, _*_, _/_, _^_, _≤_, _<_}
 use native.Mathlib.Nat.{lt-of-le-of-lt, mul-le-mul, le-trans, div-mul-le-self}
 use native.Mathlib.Omega.{arith}
-use mathlib.Core.Path.{_≡_, refl, sym, ap, ap₂, subst, _∙_}
-use mathlib.Core.List.{List, [], _∷_, _++_, map}
+use mathlib.Core.Path.{_≡_, refl, sym, ap, ap₂, _∙_}
+use mathlib.Core.List.{List, [], _∷_, map}
 use mathlib.Core.Bool.{Bool, true, false, _&&_, _||_, not}
 use borrow.Author.Tests.{eqb-true, eqb-false, lt-ltb}
 use lib.Dec.{eqb, ltb, lit<, lit≤}
@@ -14,7 +14,7 @@ use Rattle.facts.proofs.Branch.{split, differ}
 use Rattle.facts.proofs.Decides.{and-split}
 use Rattle.digits.specs.Digits.{digitOf}
 use Rattle.digits.specs.Lanes.{lanes, Under, figuresOf, lettersOf, shownOf, marksOf, valuesOf, pairedOf, foldedOf, baseOf, unlikeOf}
-use Rattle.digits.proofs.Laning.{Small, Apart, sum-apart, lanewise, lanes-times, under-more, evens, pairUp, paired-lanes, paired-under, paired-half, written, paired-written, written-alone}
+use Rattle.digits.proofs.Laning.{Small, Apart, sum-apart, lanewise, lanes-times, under-more, pairUp, paired-lanes, paired-under, paired-half, written, paired-written, written-alone}
 
 -- ---- a question asked of every byte
 abbrev pub each : ℕ → (ℕ → Bool) → Bool

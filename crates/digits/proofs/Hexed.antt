@@ -4,12 +4,11 @@ use native.Mathlib.Nat.{lt-of-lt-of-le, pow-le-pow-right}
 use native.Mathlib.Omega.{arith}
 use mathlib.Core.Path.{_≡_, sym, ap, subst, _∙_}
 use mathlib.Core.List.{List}
-use mathlib.Core.Bool.{true, false}
+use mathlib.Core.Bool.{true}
 use borrow.Author.Tests.{le-leb, lt-leb}
 use lib.Dec.{lit<}
 use lib.ListN.{length, take, drop, length-append}
 use lib.Seq.{take-all}
-use Rattle.digits.specs.declared.quick.Hexes.{Hexes}
 use Rattle.digits.specs.declared.group.Group.{Group}
 use Rattle.digits.specs.Lanes.{Laned, groupBy, Grouped}
 use Rattle.digits.specs.Digits.{digitsIn}

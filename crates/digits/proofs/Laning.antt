@@ -1,11 +1,11 @@
 -- Lanes of one number: what is done to the number is done to each lane. Assumes nothing.
-use Prim.Native.Nat.{ℕ, zero, suc, _+_, _-_, _*_, _/_, _%_, _^_, _≤_, _<_, zero-le}
-use native.Mathlib.Nat.{mul-assoc, mul-one, mul-zero, zero-mul, add-mul, mul-left-comm, mul-comm, mul-le-mul-right, mul-suc, pow-zero, lt-of-lt-of-le, mod-lt}
+use Prim.Native.Nat.{ℕ, zero, suc, _+_, _-_, _*_, _/_, _%_, _^_, _≤_, _<_}
+use native.Mathlib.Nat.{mul-assoc, mul-one, mul-zero, zero-mul, add-mul, mul-comm, mul-le-mul-right, mul-suc, pow-zero, lt-of-lt-of-le, mod-lt}
 use native.Mathlib.Omega.{arith}
 use mathlib.Core.Path.{_≡_, refl, sym, ap, ap₂, subst, _∙_}
 use mathlib.Core.List.{List, [], _∷_, _++_, map}
 use lib.ListN.{length, replicate}
-use lib.Bits.{bitAnd, bitOr, bitXor, shifted-half, shifted-even, and-block, and-mask, and-zero-r}
+use lib.Bits.{bitAnd, shifted-half, shifted-even, and-block, and-mask, and-zero-r}
 use lib.Pow.{pow-pos, pow-add, high, low, split, ones-lt, pow-mono}
 use lib.Count.{trailingZeros, under}
 use Rattle.digits.specs.Lanes.{lanes, Under}

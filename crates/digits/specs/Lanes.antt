@@ -1,5 +1,5 @@
 -- Bytes side by side in one number, the first lowest, and digits among them. No mesher need read it: only contracts of functions that look at eight bytes at once cite it, none of reading. Assumes nothing.
-use Prim.Native.Nat.{ℕ, zero, suc, _+_, _*_, _/_, _^_, _≤_, _<_}
+use Prim.Native.Nat.{ℕ, zero, _+_, _*_, _/_, _^_, _≤_, _<_}
 use mathlib.Core.Path.{_≡_}
 use mathlib.Core.List.{List, [], _∷_}
 use mathlib.Core.Bool.{Bool, true, false}

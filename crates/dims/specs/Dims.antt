@@ -1,6 +1,6 @@
 -- The dimension that a fifth word gives, and whether it agrees with the one known before. Assumes nothing.
 use Prim.Native.Nat.{ℕ}
-use mathlib.Core.Bool.{Bool, true, false, _||_, not}
+use mathlib.Core.Bool.{Bool, true, _||_, not}
 use lib.Dec.{eqb}
 use Rattle.layout.specs.Items as Items
 use Rattle.spots.specs.declared.Kind.{Kind}

@@ -4,3 +4,4 @@ pub mod Signed
 pub mod Bytes
 pub mod Tail
 pub mod Sets
+pub mod Maps

@@ -8,7 +8,7 @@ use lib.ListN.{length}
 use Rattle.tokens.specs.Listed.{tokensFrom}
 use Rattle.layout.specs.Items as Items
 use Rattle.layout.specs.Reading as R
-use Rattle.layout.specs.Reading.{Got, got, bad, Reader, next, _>>=_, _>>_, pure, rightOf, hexWord}
+use Rattle.layout.specs.Reading.{Got, got, bad, Reader, _>>=_, _>>_, pure, rightOf, hexWord}
 use Rattle.layout.specs.State.{isNode}
 use Rattle.layout.specs.Sections as S
 use Rattle.layout.specs.Sections.{fifthOf}

@@ -5,7 +5,6 @@ use Rattle.layout.specs.declared.Refusal.{Refusal}
 use Rattle.layout.specs.State.{dimAfter, dimListed, typeListed, fifthListed, fitsIn, declRange, partRange, zoneFits}
 use Rattle.spots.specs.declared.Kind.{Kind}
 use Rattle.ranges.specs.declared.Limit.{Limit}
-use Rattle.spots.specs.declared.Bad.{Bad}
 use Rattle.spots.specs.declared.Head.{Head}
 use Rattle.sofar.specs.declared.Seen.{Seen}
 use Rattle.judging.specs.declared.judge.Judged.{Judged}

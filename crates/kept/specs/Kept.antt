@@ -4,7 +4,7 @@ use mathlib.Core.List.{List, [], _∷_}
 use mathlib.Core.Bool.{Bool, true, false, _&&_, _||_}
 use lib.Dec.{ltb, leb, eqb}
 use lib.ListN.{getD}
-use Rattle.layout.specs.State.{Span, clear, covers}
+use Rattle.layout.specs.State.{Span, covers}
 use Rattle.kept.specs.declared.Entry.{Entry}
 
 abbrev pub entryClear : ℕ → ℕ → Entry → Bool

@@ -4,10 +4,10 @@ use native.Mathlib.Omega.{arith}
 use mathlib.Core.Path.{_≡_, refl, sym, _∙_, ap, subst}
 use mathlib.Core.Logic.{_⊎_, inl, inr}
 use mathlib.Core.List.{List, [], _∷_}
-use mathlib.Core.Bool.{Bool, true, _||_}
+use mathlib.Core.Bool.{true}
 use borrow.Author.Tests.{eq-eqb, ne-eqb}
 use lib.Dec.{eqb}
-use Rattle.facts.proofs.Decides.{or-is, lt-is, ne-is, or-left, or-right, either-of}
+use Rattle.facts.proofs.Decides.{or-is, lt-is, ne-is, or-left, either-of}
 use Rattle.tokens.specs.Listed.{Tok}
 use Rattle.numbers.specs.declared.sort.Sort.{Sort}
 use Rattle.layout.specs.Items.{Kind, node, cell, face, idOf, Perhaps, absent, given, Header, countOf, Body, points, elements, facets, Item, dim, decl, part, other, dimWord, Wide}
@@ -20,7 +20,7 @@ use Rattle.layout.proofs.Tests.{among-is, fits-is, decl-range-is, part-
 use Rattle.layout.proofs.Dims.{dims-same, dim-is}
 use Rattle.layout.proofs.Sums.{Seen, total-is}
 use Rattle.layout.proofs.Bodies.{Suits, body-suits}
-use Rattle.layout.proofs.CompleteWords.{MayLack, right-is, number-is, hex-is, skip-is, body-is, head-is, lacks-decl, lacks-part}
+use Rattle.layout.proofs.CompleteWords.{right-is, number-is, hex-is, skip-is, body-is, head-is, lacks-decl, lacks-part}
 
 module _ (size : ℕ) where
   module _ (before : List Item) (x : State) (s : Seen before x) (room : Room) where

@@ -3,7 +3,6 @@ use Prim.Native.Nat.{ℕ, zero, suc, _+_}
 use mathlib.Core.List.{List, [], _∷_}
 use mathlib.Core.Bool.{Bool, true, false}
 use lib.Dec.{ltb}
-use lib.IntN.{ℤ}
 use Rattle.sizes.specs.Sizes.{depth}
 use Rattle.tokens.specs.Listed.{Tok, left, right, text, cut, word}
 use Rattle.numbers.specs.declared.whole.Whole.{Whole}

@@ -9,7 +9,7 @@ use lib.ListN.{length, getD, take, replicate}
 use Rattle.mesh.specs.declared.Zone.{Zone}
 use Rattle.mesh.specs.Rows.{places, faceWords, cellWords, nodeWords}
 use Rattle.layout.specs.Items.{Kind, node, cell, face, idOf, Perhaps, absent, given, Header, Pair, Facet, Body, points, elements, facets, Item, dim, decl, part, other}
-use Rattle.layout.specs.Keeps.{Limit, most, Room}
+use Rattle.layout.specs.Keeps.{most, Room}
 
 -- ---- any table
 -- a run of words, and where it begins

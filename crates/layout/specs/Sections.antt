@@ -9,7 +9,7 @@ use Rattle.tokens.specs.Listed.{Tok, left, right, text, cut, word}
 use Rattle.layout.specs.declared.Refusal.{Refusal}
 use Rattle.layout.specs.Items.{Kind, node, cell, face, Perhaps, absent, given, Header, countOf, Facet, Body, points, elements, facets, Item, dim, decl, part, other, dimWord}
 use Rattle.layout.specs.Keeps.{Room, roomFor}
-use Rattle.layout.specs.Reading.{Got, got, bad, Reader, next, _>>=_, _>>_, pure, check, choose, Read, leftOf, rightOf, idWord, hexWord, pairWord, skip, rowsOf, enclosedOf}
+use Rattle.layout.specs.Reading.{got, bad, Reader, next, _>>=_, _>>_, pure, check, choose, Read, leftOf, rightOf, idWord, hexWord, pairWord, skip, rowsOf, enclosedOf}
 use Rattle.layout.specs.State.{State, per, dimAfter, every, clear, fitsIn, declRange, partRange, dimListed, typeListed, fifthListed, dimAgrees, isNode, dimKnown, zoneFits}
 
 -- a header's words with their offsets, and the offset of its `)`

@@ -4,7 +4,7 @@ use mathlib.Core.List.{List, [], _∷_}
 use mathlib.Core.Bool.{Bool, true, false, _&&_, _||_, not}
 use lib.Dec.{ltb, leb, eqb}
 use Rattle.sizes.specs.Sizes.{rows, zoneId, zones}
-use Rattle.layout.specs.Items.{Kind, node, cell, face, Perhaps, absent, given, Header, Item, dim, decl, part, other, dimWord, saysDim}
+use Rattle.layout.specs.Items.{Kind, node, cell, face, Perhaps, absent, given, Header, Item, dim, decl, part, other, dimWord}
 use Rattle.layout.specs.Keeps.{Limit, unlimited, most, typesOf}
 
 pub record Span : Type 0 where

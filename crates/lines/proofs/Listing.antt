@@ -3,7 +3,7 @@ use Prim.Native.Nat.{ℕ, zero, suc, _+_, _-_, _≤_, _<_}
 use native.Mathlib.Omega.{arith}
 use mathlib.Core.Path.{_≡_, refl, sym, _∙_, ap, subst}
 use mathlib.Core.List.{List, [], _∷_, _++_}
-use mathlib.Core.Bool.{Bool, true, false}
+use mathlib.Core.Bool.{true, false}
 use borrow.Author.Tests.{eq-eqb, ne-eqb}
 use lib.Dec.{eqb}
 use lib.ListN.{length, take, drop, length-drop, drop-of-length-le}
@@ -12,7 +12,7 @@ use Rattle.facts.proofs.Branch.{either}
 use Rattle.facts.specs.Bytes.{fromBigEndian}
 use Rattle.records.specs.declared.Fault.{Fault}
 use Rattle.records.specs.Record.{narrow, hasPlace, hasCount, extraBytes, sizeOf, readBack}
-use Rattle.lines.specs.Writing.{Wrote, decimal, behind, line}
+use Rattle.lines.specs.Writing.{Wrote, decimal, behind}
 use Rattle.lines.specs.Listed.{extras, recordLine, recordLines}
 use Rattle.lines.proofs.Writing.{wrote-none, wrote-more, wrote-kept, wrote-within}
 

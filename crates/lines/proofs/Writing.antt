@@ -1,15 +1,14 @@
 -- Bytes written one behind the other: what is written twice is written once. Assumes nothing.
-use Prim.Native.Nat.{ℕ, zero, suc, _+_, _-_, _≤_, _<_, min}
+use Prim.Native.Nat.{ℕ, suc, _+_, _-_, _≤_, _<_, min}
 use native.Mathlib.Omega.{arith}
 use native.Mathlib.Nat.{min-eq-left, min-eq-right, min-le-right}
 use mathlib.Core.Path.{_≡_, refl, sym, _∙_, ap, subst}
 use mathlib.Core.List.{List, [], _∷_, _++_}
-use mathlib.Core.Bool.{true, false}
 use borrow.Author.Tests.{leb-true, leb-false}
 use lib.Dec.{leb}
-use lib.ListN.{length, take, drop, getD, set, length-append, drop-of-length-le}
+use lib.ListN.{length, drop, getD, set, length-append, drop-of-length-le}
 use native.Mathlib.Numerals.{add-one}
-use lib.Seq.{sets, length-sets, set-out, drop-cons, take-length}
+use lib.Seq.{sets, length-sets, set-out, drop-cons}
 use Rattle.facts.proofs.Branch.{split}
 use Rattle.facts.proofs.Sets.{sets-append, sets-out}
 use Rattle.lines.specs.Writing.{Wrote}

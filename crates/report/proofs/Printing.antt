@@ -1,17 +1,16 @@
 -- What is printed of an answer. Assumes nothing.
-use Prim.Native.Nat.{ℕ, zero, suc, _+_, _≤_, zero-le}
+use Prim.Native.Nat.{ℕ, _≤_, zero-le}
 use native.Mathlib.Omega.{arith}
 use mathlib.Core.Path.{_≡_, refl, sym, _∙_, ap, subst}
-use mathlib.Core.List.{List, [], _∷_, _++_}
-use mathlib.Core.Bool.{Bool, true, false}
+use mathlib.Core.List.{List, [], _∷_}
+use mathlib.Core.Bool.{true, false}
 use borrow.Author.Tests.{eq-eqb, ne-eqb}
 use lib.Dec.{eqb}
-use lib.IntN.{ℤ, pos}
+use lib.IntN.{pos}
 use lib.ListN.{length, take, replicate, length-replicate}
 use lib.Seq.{length-take-le}
 use Rattle.facts.specs.Text.{bytes}
 use Rattle.facts.proofs.Branch.{either}
-use Rattle.mesh.specs.declared.Zone.{Zone}
 use Rattle.mesh.specs.Rows.{places}
 use Rattle.records.specs.Record.{narrow}
 use Rattle.records.proofs.Longest.{fit-longest}
@@ -19,8 +18,8 @@ use Rattle.faults.specs.Sides.{Tables}
 use Rattle.layout.specs.declared.Refusal.{Refusal}
 use Rattle.layout.specs.declared.Reply.{Reply}
 use Rattle.layout.specs.Replies.{numberOf}
-use Rattle.layout.specs.Rows.{Lent, noZone}
-use Rattle.layout.specs.Read.{Result, readOf}
+use Rattle.layout.specs.Rows.{noZone}
+use Rattle.layout.specs.Read.{Result}
 use Rattle.audit.specs.declared.Refusal as Audit
 use Rattle.audit.specs.declared.Audited.{Audited}
 use Rattle.faults.specs.All.{allFaults}
@@ -32,7 +31,7 @@ use Rattle.filling.proofs.Few.{told-only}
 use Rattle.filling.proofs.Zoned.{flat-is-read}
 use Rattle.lines.specs.Writing.{Wrote, line}
 use Rattle.lines.specs.Listed.{faultLines}
-use Rattle.report.specs.Report.{lent, audited, reported, reportOf}
+use Rattle.report.specs.Report.{audited, reported, reportOf}
 
 -- ---- a part of a list
 pub part-fits : (b : ℕ) (ls : List ℕ) → b ≤ 4096 → length ls ≡ 4096 → b ≤ length ls

@@ -1,7 +1,6 @@
 -- A section by its id. Assumes nothing.
-use Prim.Native.Nat.{ℕ, _≤_, _<_}
-use native.Mathlib.Omega.{arith}
-use mathlib.Core.Path.{_≡_, refl, sym, _∙_, ap}
+use Prim.Native.Nat.{ℕ}
+use mathlib.Core.Path.{_≡_, sym, _∙_, ap}
 use mathlib.Core.List.{List}
 use mathlib.Core.Bool.{Bool, true, false, _||_}
 use borrow.Author.Tests.{eq-eqb, ne-eqb}
@@ -12,15 +11,13 @@ use Rattle.layout.specs.declared.Refusal.{Refusal}
 use Rattle.layout.specs.Items as Items
 use Rattle.layout.specs.Keeps as Keeps
 use Rattle.layout.specs.State as St
-use Rattle.layout.specs.Reading as R
-use Rattle.layout.specs.Reading.{Got, got, bad, Reader, next, check, choose, idWord}
+use Rattle.layout.specs.Reading.{Reader, check, choose, idWord}
 use Rattle.layout.specs.Sections.{twoOf, kindOf, otherOf, sectionOf}
 use Rattle.spots.specs.declared.Bad.{Bad}
 use Rattle.steps.specs.declared.step.Num.{Num}
 use Rattle.sections.specs.declared.section.Sect.{Sect}
 use Rattle.steps.specs.Views.{NumAt}
-use Rattle.sections.specs.Sections.{outlined, SectAhead, SectAt, byId}
-use Rattle.steps.proofs.Chain.{num-no, num-to, num-ahead}
+use Rattle.sections.specs.Sections.{outlined, SectAt, byId}
 use Rattle.sections.proofs.Sections.{two-no, two-to}
 
 yes : {b : Bool} (p q : Reader Items.Item) (ts : List Tok) → b ≡ true → p ts ≡ choose b p q ts

@@ -3,16 +3,16 @@ use Prim.Native.Nat.{ℕ, zero, suc, _+_, _≤_, _<_}
 use native.Mathlib.Omega.{arith}
 use native.Mathlib.Numerals.{add-one}
 use mathlib.Core.Path.{_≡_, refl, sym, _∙_, ap}
-use mathlib.Core.List.{List, [], _∷_}
+use mathlib.Core.List.{List}
 use mathlib.Core.Bool.{Bool, true, false}
 use borrow.Author.Tests.{lt-ltb}
 use lib.Dec.{eqb}
-use lib.ListN.{length, getD, set}
+use lib.ListN.{length, set}
 use lib.Seq.{getD-set-same, getD-set-other}
 use Rattle.sizes.specs.Sizes.{zones}
 use Rattle.layout.specs.Items as Items
 use Rattle.layout.specs.State as St
-use Rattle.layout.specs.State.{Span, per, put, spanned, declaredAs, after, dimAfter}
+use Rattle.layout.specs.State.{Span, per, put, spanned, after, dimAfter}
 use Rattle.spots.specs.declared.Kind.{Kind}
 use Rattle.spots.specs.declared.Head.{Head}
 use Rattle.sofar.specs.declared.State.{State}

@@ -11,7 +11,7 @@ use Rattle.sizes.specs.Sizes.{depth}
 use Rattle.tokens.specs.declared.Token.{Token}
 use Rattle.tokens.specs.declared.Step.{Step}
 use Rattle.tokens.specs.Tokens.{markOf, tokenAt}
-use Rattle.tokens.specs.Listed.{Tok, right, tokThen, tokensFrom}
+use Rattle.tokens.specs.Listed.{right, tokThen, tokensFrom}
 use Rattle.tokens.proofs.Bounds.{solid}
 use Rattle.tokens.proofs.Listed.{tokens-kind, moved, ended}
 use Rattle.tokens.proofs.Marks.{marks-on, mark-behind}

@@ -1,8 +1,7 @@
 -- The code's answers as the definitions' answers: a place stands for the tokens from there on. Assumes nothing.
-use Prim.Native.Nat.{ℕ, _≤_, _<_}
+use Prim.Native.Nat.{ℕ}
 use mathlib.Core.Path.{_≡_}
 use mathlib.Core.List.{List}
-use lib.ListN.{length}
 use Rattle.tokens.specs.Listed.{tokensFrom}
 use Rattle.numbers.specs.declared.whole.Whole.{Whole}
 use Rattle.numbers.specs.declared.sort.Sort.{Sort}

@@ -7,7 +7,7 @@ use Rattle.layout.specs.declared.Reply.{Reply}
 use Rattle.layout.specs.Items.{Item}
 use Rattle.layout.specs.Keeps.{Room}
 use Rattle.layout.specs.Says.{LaidText}
-use Rattle.layout.specs.State.{State, start, afterAll}
+use Rattle.layout.specs.State.{start, afterAll}
 use Rattle.layout.specs.Read.{Answer, accepted, refused, answerOf}
 use Rattle.layout.proofs.Accepts.{answerOf-exactly, stated}
 use Rattle.endings.specs.Endings.{verdict}

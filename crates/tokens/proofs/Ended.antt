@@ -12,7 +12,7 @@ use Rattle.tokens.specs.declared.Class.{Class}
 use Rattle.tokens.specs.declared.Run.{Run}
 use Rattle.tokens.specs.declared.Token.{Token}
 use Rattle.tokens.specs.declared.Step.{Step}
-use Rattle.tokens.specs.Tokens.{classOf, goesOn, runAt, startOf, endsWord, stepOf, textTo, tokenOf, tokenFrom, tokenAt}
+use Rattle.tokens.specs.Tokens.{classOf, goesOn, runAt, startOf, endsWord, stepOf, textTo, tokenOf, tokenAt}
 use Rattle.tokens.proofs.Runner.{word-byte}
 use Rattle.tokens.proofs.Laws.{run-more, run-stop, run-out, ends-byte, ends-file, token-is, token-end}
 

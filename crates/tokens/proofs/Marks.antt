@@ -3,16 +3,15 @@ use Prim.Native.Nat.{ℕ, zero, suc, _+_, _-_, _≤_, _<_}
 use native.Mathlib.Omega.{arith}
 use mathlib.Core.Path.{_≡_, refl, sym, ap, _∙_}
 use mathlib.Core.List.{List, _∷_}
-use mathlib.Core.Bool.{Bool, true, false, false≢true}
+use mathlib.Core.Bool.{true, false≢true}
 use borrow.Author.Tests.{ltb-true, ltb-false}
 use lib.Dec.{ltb}
 use lib.ListN.{length, getD}
 use Rattle.facts.proofs.Branch.{split}
 use Rattle.tokens.specs.declared.Class.{Class}
 use Rattle.tokens.specs.declared.Run.{Run}
-use Rattle.tokens.specs.declared.Token.{Token}
 use Rattle.tokens.specs.declared.Step.{Step}
-use Rattle.tokens.specs.Tokens.{classOf, goesOn, runAt, startOf, markOf, stepOf, tokenOf, tokenFrom, tokenAt}
+use Rattle.tokens.specs.Tokens.{classOf, goesOn, runAt, markOf, tokenOf, tokenFrom, tokenAt}
 use Rattle.tokens.specs.Listed.{Tok, word, stepThen, tokensFrom}
 use Rattle.tokens.proofs.Laws.{run-more, run-stop, run-out, token-is}
 use Rattle.tokens.proofs.Listed.{tokens-step}

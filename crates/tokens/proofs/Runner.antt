@@ -3,7 +3,7 @@ use Prim.Native.Nat.{ℕ, zero, suc, _+_, _≤_, _<_}
 use native.Mathlib.Omega.{arith}
 use mathlib.Core.Path.{_≡_, refl, sym, ap, _∙_}
 use mathlib.Core.List.{List}
-use mathlib.Core.Bool.{true, false, not, false≢true}
+use mathlib.Core.Bool.{true, false≢true}
 use borrow.Author.Tests.{ne-eqb, ltb-true, ltb-false, not-true}
 use lib.Dec.{ltb}
 use lib.ListN.{length, getD}

@@ -2,26 +2,25 @@
 use Prim.Native.Nat.{ℕ, _+_, _-_, _^_, _≤_, _<_}
 use native.Mathlib.Nat.{lt-of-lt-of-le, pow-le-pow-right}
 use native.Mathlib.Omega.{arith}
-use mathlib.Core.Path.{_≡_, refl, sym, ap, ap₂, subst, _∙_}
+use mathlib.Core.Path.{_≡_, refl, sym, ap, subst, _∙_}
 use mathlib.Core.List.{List, _++_}
-use mathlib.Core.Bool.{Bool, true, false, _&&_}
+use mathlib.Core.Bool.{Bool, true, false}
 use borrow.Author.Tests.{le-leb, lt-leb}
-use lib.Dec.{leb, lit<}
+use lib.Dec.{lit<}
 use lib.ListN.{length, take, drop, getD, length-take, length-drop}
 use lib.Seq.{length-take-le, take-add, drop-at, drop-drop}
 use Rattle.facts.proofs.Branch.{either}
-use Rattle.tokens.specs.Tokens.{isBlank, startOf}
+use Rattle.tokens.specs.Tokens.{isBlank}
 use Rattle.digits.specs.declared.couple.Couple.{Couple}
 use Rattle.digits.specs.declared.quick.Hexes.{Hexes}
 use Rattle.digits.specs.Digits.{digitsIn}
-use Rattle.digits.specs.Hexes.{hexesOf, hexesBy}
-use Rattle.digits.specs.Lanes.{lanes, Laned}
+use Rattle.digits.specs.Hexes.{hexesOf}
+use Rattle.digits.specs.Lanes.{Laned}
 use Rattle.digits.specs.Couples.{coupleOf}
 use Rattle.digits.proofs.Digits.{digitsIn-within, digitsIn-below}
 use Rattle.digits.proofs.Coupling.{Coupled, CoupledBy, couple-says}
 use Rattle.twos.specs.declared.Two.{Two}
-use Rattle.quick.specs.declared.words.Known.{Known}
-use Rattle.quick.specs.Quick.{hexesFrom, knownBy, knownOf}
+use Rattle.quick.specs.Quick.{hexesFrom, knownOf}
 use Rattle.twos.specs.Twos.{twoBy, twoOf, Inside, TwoSays, TwoAt}
 use Rattle.quick.proofs.Near.{near-starts}
 use Rattle.quick.proofs.Knowing.{known-from}

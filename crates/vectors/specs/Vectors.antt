@@ -10,7 +10,7 @@ use Rattle.decimals.specs.Coordinate.{coordinateOf}
 use Rattle.mesh.specs.Rows.{places}
 use Rattle.layout.specs.Rows.{Lent, noZone}
 use Rattle.layout.specs.Replies.{Shown, shown}
-use Rattle.layout.specs.Read.{Result, Outcome, outcome, readOf}
+use Rattle.layout.specs.Read.{Outcome, outcome, readOf}
 use Rattle.audit.specs.Audit.{tables, Out, out, values, auditOf}
 
 pub data Case : Type 0 where
