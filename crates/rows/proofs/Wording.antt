@@ -3,7 +3,7 @@ use Prim.Native.Nat.{ℕ, _+_, _-_, _≤_, _<_}
 use native.Mathlib.Omega.{arith}
 use mathlib.Core.Path.{_≡_, refl, sym, _∙_, ap, subst}
 use mathlib.Core.List.{List, [], _∷_}
-use lib.ListN.{set, replicate}
+use lib.ListN.{set, getD, replicate}
 use lib.Seq.{sets}
 use Rattle.layout.specs.Rows.{joined}
 use Rattle.quick.specs.declared.words.Known.{Known}
@@ -29,6 +29,11 @@ zeros-are n = repeated 0 n
 pub word-put : (s : List ℕ) (at k : ℕ) (old : List ℕ) (r : Known) {new : List ℕ} → r ≡ knownOf s at → new ≡ set old k (r .value) → Puts (wordsAt s 1 at) k old new (r .next)
 unfolding many
 word-put s at k old r e q = (q ∙ ap (λ (y : Known). set old k (y .value)) e, ap (λ (y : Known). y .next) e)
+
+-- a word that went into a list of its own
+pub word-alone : (s : List ℕ) (at : ℕ) (w : List ℕ) (to : ℕ) → Puts (wordsAt s 1 at) 0 (0 ∷ []) w to → record { value = getD w 0 0; next = to } ≡ knownOf s at
+unfolding many
+word-alone s at w to h = λ i. record { value = getD (h .0 i) 0 0; next = h .1 i }
 
 abbrev pub Wording : List ℕ → ℕ → ℕ → ℕ → List ℕ → ℕ → ℕ → ℕ → List ℕ → Type 0
 Wording s at n k old c left i cur = Going sets (wordAt s) (λ v. v ∷ []) 1 at n k old c left i cur

@@ -11,17 +11,6 @@ use stores::store;
 use twos::Two;
 use twos::known_two;
 
-// A word by its digits, and most numbers that lead a row are one digit.
-pub(crate) fn count_at(s: &[u8], at: usize) -> Known
-    ensures { λ r. ⌜ r ≡ knownOf (now (s .entry)) at ⌝ }
-{
-    let q = quick::digit_hex(s, at);
-    match q {
-        Quick::Is { value, next } => Known { value, next },
-        Quick::Not => quick::known_hex(s, at),
-    }
-}
-
 fn put_word(s: &[u8], at: usize, words: &mut [u32], k: usize) -> usize
     ensures { λ r. ⌜ Puts (wordsAt (now (s .entry)) 1 at) k (now (words .entry)) (now (words .exit)) r ⌝ }
 {
@@ -84,5 +73,26 @@ pub(crate) fn put_zeros(words: &mut [u32], k: usize, n: u32)
         store(words, i, 0);
         i += 1;
         left -= 1;
+    }
+}
+
+// A word by its digits. By way of the loop, so that the compiler has `known_hex` there alone and puts it inside.
+fn word_at(s: &[u8], at: usize) -> Known
+    ensures { λ r. ⌜ r ≡ knownOf (now (s .entry)) at ⌝ }
+{
+    let mut word: [u32; 1] = [0; 1];
+    let next = put_words(s, at, 1, &mut word, 0);
+    let value = word[0];
+    Known { value, next }
+}
+
+// Likewise, and most numbers that lead a row are one digit.
+pub(crate) fn count_at(s: &[u8], at: usize) -> Known
+    ensures { λ r. ⌜ r ≡ knownOf (now (s .entry)) at ⌝ }
+{
+    let q = quick::digit_hex(s, at);
+    match q {
+        Quick::Is { value, next } => Known { value, next },
+        Quick::Not => word_at(s, at),
     }
 }

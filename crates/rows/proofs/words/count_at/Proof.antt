@@ -6,7 +6,7 @@ use Rattle.rows.proofs.words.count_at.Tie as tie
 use Rattle.rows.proofs.words.count_at.Reads as reads
 use Rattle.rows.proofs.words.count_at.Lts as lts
 use Rattle.quick.proofs.digit_hex.Reads as digit-hex-reads
-use Rattle.quick.proofs.known_hex.Reads as known-hex-reads
+use Rattle.rows.proofs.words.word_at.Reads as word-at-reads
 
 digit-hex-requires : tie.Need-digit-hex-requires
 digit-hex-requires c κs = search needs
@@ -17,8 +17,8 @@ enum-known-q c = search needs
 enum-told : tie.Need-enum-told
 enum-told c = search needs
 
-known-hex-requires : tie.Need-known-hex-requires
-known-hex-requires c κs = search needs
+word-at-requires : tie.Need-word-at-requires
+word-at-requires c κs = search needs
 
 returns : tie.Need-returns
 returns c = digit-known _ _ _ (c .before .before .before .digit-hex .ensures) _ _ (c .before .q .given .1)
@@ -29,4 +29,4 @@ returns-2 c = search needs
 pub count-at-spec : {M : Type 1} → statement M
 count-at-spec =
     tie.close
-    (tie.spec digit-hex-requires enum-known-q enum-told known-hex-requires returns returns-2)
+    (tie.spec digit-hex-requires enum-known-q enum-told word-at-requires returns returns-2)
