@@ -9,18 +9,18 @@ use Rattle.mesh.specs.Rows.{faceAt, cellAt}
 use Rattle.faults.specs.All.{faceFaults, cellFaults}
 use Rattle.records.specs.declared.Fault.{Fault}
 use Rattle.records.specs.declared.Pen.{Pen}
-use Rattle.records.specs.Record.{narrow, fault}
+use Rattle.records.specs.Record.{narrow}
 use Rattle.records.specs.Laid.{Laid, laid, step, run}
 use Rattle.records.proofs.Laid.{run-append, run-length}
 use Rattle.faults.specs.Over.{each}
 use Rattle.mesh.specs.declared.Face.{Face}
 use Rattle.mesh.specs.declared.Cell.{Cell}
 use Rattle.faults.specs.declared.Frame.{Frame}
-use Rattle.faults.specs.Faults.{faultsOfFace, faultsOfCell, faultIf, hasCellFault, cellExtra, cellFaultAt, anyFault}
+use Rattle.faults.specs.Faults.{faultsOfCell, faultIf, anyFault}
 use Rattle.faults.proofs.Any.{face-empty}
 use Rattle.faults.proofs.Over.{each-more, each-none}
 use Rattle.audit.specs.declared.Stand.{Stand}
-use Rattle.audit.specs.Steps.{Visited}
+use Rattle.audit.specs.Steps.{Visited, Passed}
 
 pub record Lays (old : List ℕ) (s₀ : Stand) (rest whole : List Fault) (n : ℕ) (list : List ℕ) (s : Stand) : Type 0 where
   pub ran : run narrow (laid list (s .pen)) rest ≡ run narrow (laid old (s₀ .pen)) whole
@@ -28,10 +28,14 @@ pub record Lays (old : List ℕ) (s₀ : Stand) (rest whole : List Fault) (n : �
   pub few : s .total ≤ s₀ .total + n
   pub kept : length list ≡ length old
 
+-- nothing is laid yet
+pub begun : {old : List ℕ} {s₀ : Stand} {whole : List Fault} (c : ℕ) → Lays old s₀ whole whole c old s₀
+begun c = record { ran = refl; counted = refl; few = omega arith; kept = refl }
+
 -- a range of which a of b numbers are done, and the next is i
 pub start : {old : List ℕ} {s₀ : Stand} (g : ℕ → List Fault) (i a b k c : ℕ) → b - a ≡ k
     → Lays old s₀ (each g i (b - a)) (each g i k) c old s₀
-start g i a b k c e = record { ran = rw e; counted = rw e; few = omega arith; kept = refl }
+start g i a b k c e = rw e (begun c)
 
 visited-length : {old new : List ℕ} {s r : Stand} {fs : List Fault} {n : ℕ} → Visited old s fs n new r → length new ≡ length old
 visited-length {old} {new} {s} {r} {fs} v = ap (λ (l : Laid). length (l .buf)) (v .ran) ∙ run-length narrow (laid old (s .pen)) fs
@@ -74,32 +78,22 @@ module _ (b : Bool) (f : Fault) (old : List ℕ) (s : Stand) where
   unfolding run
   visited-none h = rw h (record { ran = refl; counted = omega arith; few = omega arith })
 
--- one kind at a cell
-module _ (frame : Frame) (i : ℕ) (cell : Cell) (count k : ℕ) (old : List ℕ) (s : Stand) where
-  pub cell-found : {new : List ℕ} {pen : Pen} (e : ℕ) → hasCellFault frame cell count k ≡ true → e ≡ cellExtra count k
-      → laid new pen ≡ step narrow (laid old (s .pen)) (fault k i e)
-      → Visited old s (cellFaultAt frame i cell count k) 1 new (record { pen = pen; total = s .total + 1 })
-  unfolding cellFaultAt
-  cell-found e h q r = visited-one (hasCellFault frame cell count k) (fault k i (cellExtra count k)) old s _ _ h (rw q at r)
+-- a row without any fault adds nothing to the list: what is left to lay is what the rows behind it have
+pub quiet-more : (g : ℕ → List Fault) (i n : ℕ) → i < n → g (i + 1) ≡ [] → each g (i + 1) (n - i) ≡ each g (i + 1 + 1) (n - (i + 1))
+quiet-more g i n h e = each-more g (i + 1) i n h ∙ ap (λ (l : List Fault). l ++ each g (i + 1 + 1) (n - (i + 1))) e
 
-  pub cell-clear : hasCellFault frame cell count k ≡ false → Visited old s (cellFaultAt frame i cell count k) 1 old s
-  unfolding cellFaultAt
-  cell-clear h = visited-none (hasCellFault frame cell count k) (fault k i (cellExtra count k)) old s h
+-- no row was passed yet
+pub passed-none : (g : ℕ → List Fault) (n : ℕ) → Passed g n 0
+passed-none g n = let z : n - 0 ≡ n = omega arith in record { within = omega arith; quiet = rw z }
 
--- a face without any fault adds nothing to the list: what is left to lay is what the faces behind it have
 pub face-quiet : (n : ℕ) (frame : Frame) (rows : List ℕ) (f faces : ℕ) (face : Face) → f < faces → face ≡ faceAt n rows f → anyFault n frame face ≡ false
     → each (faceFaults n frame rows) (f + 1) (faces - f) ≡ each (faceFaults n frame rows) (f + 1 + 1) (faces - (f + 1))
 face-quiet n frame rows f faces face h e none =
     let z : f + 1 - 1 ≡ f = omega arith in
-    let empty : faceFaults n frame rows (f + 1) ≡ [] = rw (z, ← e) (face-empty n frame (f + 1) face none) in
-    each-more (faceFaults n frame rows) (f + 1) f faces h ∙ ap (λ (l : List Fault). l ++ each (faceFaults n frame rows) (f + 1 + 1) (faces - (f + 1))) empty
+    quiet-more (faceFaults n frame rows) f faces h (rw (z, ← e) (face-empty n frame (f + 1) face none))
 
--- the face of number f + 1 is the row at f
-pub face-visited : (n : ℕ) (frame : Frame) (rows : List ℕ) (f : ℕ) (face : Face) {old new : List ℕ} {s r : Stand} {d : ℕ} → face ≡ faceAt n rows f
-    → Visited old s (faultsOfFace n frame (f + 1) face) d new r → Visited old s (faceFaults n frame rows (f + 1)) d new r
-face-visited n frame rows f face e v = let z : f + 1 - 1 ≡ f = omega arith in rw (z, ← e) v
-
-pub cell-visited : (frame : Frame) (rows counts : List ℕ) (c : ℕ) (cell : Cell) {old new : List ℕ} {s r : Stand} {d : ℕ} → cell ≡ cellAt rows c
-    → Visited old s (faultsOfCell frame (c + 1) cell (getD counts c 0)) d new r
+-- the count of the cell of number c + 1 is the one at c
+pub cell-visited : (frame : Frame) (rows counts : List ℕ) (c : ℕ) {old new : List ℕ} {s r : Stand} {d : ℕ}
+    → Visited old s (faultsOfCell frame (c + 1) (cellAt rows (c + 1 - 1)) (getD counts c 0)) d new r
     → Visited old s (cellFaults frame rows (λ i. getD counts (i - 1) 0) (c + 1)) d new r
-cell-visited frame rows counts c cell e v = let z : c + 1 - 1 ≡ c = omega arith in rw (z, ← e) v
+cell-visited frame rows counts c v = let z : c + 1 - 1 ≡ c = omega arith in rw z (rw z at v)

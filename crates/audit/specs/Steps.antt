@@ -26,6 +26,11 @@ pub record Visited (old : List ℕ) (s : Stand) (fs : List Fault) (n : ℕ) (new
   pub counted : r .total ≡ s .total + length fs
   pub few : length fs ≤ n
 
+-- of n rows the first r were passed, since they add nothing to the list; the row at i, counted from 0, has the faults g (i + 1)
+pub record Passed (g : ℕ → List Fault) (n r : ℕ) : Type 0 where
+  pub within : r ≤ n
+  pub quiet : each g 1 n ≡ each g (r + 1) (n - r)
+
 -- both sides of a face were counted, and a test of it answered
 pub record Tallied (test : Frame → Face → Bool) (frame : Frame) (face : Face) (first last : List ℕ) (r : Bool) : Type 0 where
   pub counts : last ≡ bump (frame .cells) (face .left) (bump (frame .cells) (face .right) first)

@@ -2,46 +2,17 @@
 use super::Stand;
 use super::counts::clear;
 use super::counts::tally_face;
+use super::visits::visit;
 use faults::Frame;
 use mesh::Face;
-use records::Fault;
 use records::Pen;
 ghost use mathlib.Core.Path.{_≡_};
-ghost use Prim.Native.Nat.{_<_, _≤_, _^_};
-ghost use lib.Dec.{eqb};
+ghost use Prim.Native.Nat.{_<_, _≤_};
 ghost use lib.ListN.{length};
 ghost use Rattle.sizes.specs.Sizes.{rows as most};
 ghost use Rattle.mesh.specs.Rows.{places, faceWords, rowsIn, faceAt};
-ghost use Rattle.records.specs.Record.{fault};
-ghost use Rattle.faults.specs.Faults.{faultIf};
 ghost use Rattle.faults.specs.Counts.{Tallying};
-ghost use Rattle.audit.specs.Steps.{Visited, Sound, Faced};
-
-// One kind at one position of a face, where its bit is set.
-fn visit(bit: u32, number: u32, kind: u32, p: u32, list: &mut [u8], s: Stand) -> Stand
-    requires { ⌜ s .total < 2 ^ 31 ⌝ }
-    ensures { λ r. ⌜ Visited (now (list .entry)) s (faultIf (eqb bit 1) (fault kind number p)) 1 (now (list .exit)) r ⌝ }
-{
-    if bit == 1 {
-        let total = s.total + 1;
-        let f = Fault {
-            kind: kind,
-            index: number,
-            extra: p,
-        };
-        let pen = records::put(list, s.pen, f);
-        return Stand { pen, total };
-    }
-    // field by field: as a whole it would go through memory
-    let pen = s.pen;
-    Stand {
-        pen: Pen {
-            at: pen.at,
-            live: pen.live,
-        },
-        total: s.total,
-    }
-}
+ghost use Rattle.audit.specs.Steps.{Sound, Faced};
 
 // The face row at f, as `mesh::face_at` has it, without its test for the end: the caller knows that the row is there.
 fn face_of(rows: &[u32], f: usize) -> Face

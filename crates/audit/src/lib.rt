@@ -2,6 +2,7 @@
 mod cells;
 mod counts;
 mod faces;
+mod visits;
 
 use faults::Frame;
 use records::Pen;

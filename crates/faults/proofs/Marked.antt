@@ -1,4 +1,4 @@
--- The faults of a face as one number: its digits. Assumes nothing.
+-- The faults of a face or a cell as one number: its digits. Assumes nothing.
 -- ---- the digits, from the lowest on: a of c are done
 use Prim.Native.Nat.{ℕ, zero, suc, _+_, _-_, _*_, _/_, _%_, _≤_, _<_}
 use native.Mathlib.Nat.{add-mul-mod-self-left, add-mul-div-left, mod-eq-of-lt, div-eq-of-lt}
@@ -10,11 +10,12 @@ use borrow.Author.Tests.{ltb-true, ltb-false}
 use lib.Dec.{ltb, lit≤}
 use Rattle.facts.proofs.Branch.{split, differ}
 use Rattle.mesh.specs.declared.Face.{Face}
+use Rattle.mesh.specs.declared.Cell.{Cell}
 use Rattle.faults.specs.declared.Frame.{Frame}
 use Rattle.faults.specs.Over.{each, anyOf, packed}
-use Rattle.faults.specs.Faults.{positionsOf, hasFault, anyOfKind}
+use Rattle.faults.specs.Faults.{positionsOf, hasFault, anyOfKind, wrongElement, wrongSides, hasCellFault}
 use Rattle.faults.specs.Sides.{one}
-use Rattle.faults.specs.Marked.{four, kindMarks, nodePart, sidePart}
+use Rattle.faults.specs.Marked.{four, kindMarks, nodePart, sidePart, cellMarks}
 use Rattle.faults.proofs.Sides.{one-most}
 use Rattle.faults.proofs.Any.{few-positions}
 
@@ -96,3 +97,15 @@ module _ (frame : Frame) (face : Face) where
   pub side-part-small : sidePart 4 frame face < 65536
   unfolding sidePart packed
   side-part-small = omega (arith, kind-small 4, kind-small 5, kind-small 6, kind-small 7)
+
+-- ---- the kinds of a cell
+module _ (frame : Frame) (cell : Cell) (count : ℕ) where
+  -- the two tests, each with its bit
+  pub cell-marks-are : {x y : ℕ} {e s : Bool} → e ≡ wrongElement (frame .dim) (cell .element) → x ≡ 1 * one e → s ≡ wrongSides cell count → y ≡ 2 * one s
+      → x + y ≡ cellMarks frame cell count
+  unfolding cellMarks packed hasCellFault
+  cell-marks-are p a q b = rw (a, b, p, q) (omega arith)
+
+  pub cell-marks-small : cellMarks frame cell count < 4
+  unfolding cellMarks packed
+  cell-marks-small = omega (arith, one-most (hasCellFault frame cell count 8), one-most (hasCellFault frame cell count 9))

@@ -1,9 +1,11 @@
 // The table's lines 8 and 9.
 use super::Frame;
+use super::bits::bit_if;
 use mesh::Cell;
 ghost use mathlib.Core.Path.{_≡_};
 ghost use Prim.Native.Nat.{_≤_};
-ghost use Rattle.faults.specs.Faults.{wrongElement, sidesFor, wrongSides, hasCellFault};
+ghost use Rattle.faults.specs.Faults.{wrongElement, sidesFor, wrongSides};
+ghost use Rattle.faults.specs.Marked.{cellMarks};
 
 fn wrong_element(dim: u32, element: u32) -> bool
     ensures { λ r. ⌜ r ≡ wrongElement dim element ⌝ }
@@ -47,15 +49,11 @@ fn wrong_sides(cell: Cell, count: u32) -> bool
     count != sides_of(element)
 }
 
-// Whether the cell, with so many sides, has a fault of the kind.
-pub fn has_cell_fault(frame: Frame, cell: Cell, count: u32, kind: u32) -> bool
-    ensures { λ r. ⌜ r ≡ hasCellFault frame cell count kind ⌝ }
+// The faults of a cell with so many sides as one number: a bit a kind, kind 8 the lowest.
+pub fn cell_marks(frame: Frame, cell: Cell, count: u32) -> u32
+    ensures { λ r. ⌜ r ≡ cellMarks frame cell count ⌝ }
 {
-    if kind == 8 {
-        return wrong_element(frame.dim, cell.element);
-    }
-    if kind == 9 {
-        return wrong_sides(cell, count);
-    }
-    false
+    let of_element = bit_if(wrong_element(frame.dim, cell.element), 1);
+    let of_sides = bit_if(wrong_sides(cell, count), 2);
+    of_element + of_sides
 }

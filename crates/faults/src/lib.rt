@@ -1,7 +1,9 @@
 // What a fault is, and the faults of one cell, found on values. Nothing is written here.
+mod bits;
 mod cells;
 
-pub use cells::has_cell_fault;
+pub use bits::bit_if;
+pub use cells::cell_marks;
 
 // Dimension and totals that faults are judged by.
 pub struct Frame {

@@ -65,12 +65,12 @@ module _ (frame : Frame) (face : Face) where
 
   pub node-kinds : {x₁ x₂ x₃ m : ℕ} {b₁ : Bool}
       → m ≡ lookedAt 4 (face .count)
-      → b₁ ≡ wrongCount 4 (frame .dim) (face .count) → x₁ ≡ one b₁
+      → b₁ ≡ wrongCount 4 (frame .dim) (face .count) → x₁ ≡ 1 * one b₁
       → x₂ ≡ packed 2 (λ p. one (wrongNode (frame .nodes) (getD (face .nodes) p 0))) 0 m
       → x₃ ≡ packed 2 (λ p. one (isIn (getD (face .nodes) p 0) (take p (face .nodes)))) 0 m
       → NodeKinds x₁ x₂ x₃
   node-kinds e p₁ q₁ q₂ q₃ = (
-    q₁ ∙ ap (λ (b : Bool). one b) p₁ ∙ kind-1 4 frame face,
+    q₁ ∙ ap (λ (b : Bool). 1 * one b) p₁ ∙ omega arith ∙ kind-1 4 frame face,
     q₂ ∙ ap (packed 2 (λ p. one (wrongNode (frame .nodes) (getD (face .nodes) p 0))) 0) e ∙ kind-2 4 frame face,
     q₃ ∙ ap (packed 2 (λ p. one (isIn (getD (face .nodes) p 0) (take p (face .nodes)))) 0) e ∙ kind-3 4 frame face,
   )

@@ -6,6 +6,7 @@ use super::sound::any_node_fault;
 use super::sound::is_one_of_three;
 use super::sound::is_one_of_two;
 use faults::Frame;
+use faults::bit_if;
 use mesh::Face;
 ghost use mathlib.Core.Path.{_≡_};
 ghost use mathlib.Core.Bool.{_&&_};
@@ -21,20 +22,14 @@ ghost use Rattle.faults.specs.Marked.{four, nodePart};
 // With fewer nodes looked at, the third and the fourth are not read.
 const SOLID_LEAST: u32 = 3;
 
-fn bit(test: bool) -> u32
-    ensures { λ r. ⌜ r ≡ one test ⌝ }
-{
-    if test { 1 } else { 0 }
-}
-
 fn bits(a: bool, b: bool, c: bool, d: bool) -> u32
     ensures { λ r. ⌜ r ≡ four a b c d ⌝ }
 {
-    let first = bit(a);
-    let second = bit(b);
-    let third = bit(c);
-    let fourth = bit(d);
-    first + 2 * second + 4 * third + 8 * fourth
+    let first = bit_if(a, 1);
+    let second = bit_if(b, 2);
+    let third = bit_if(c, 4);
+    let fourth = bit_if(d, 8);
+    first + second + third + fourth
 }
 
 // A position is looked at where it is below `looked`.
@@ -100,7 +95,7 @@ pub fn node_part(frame: Frame, face: Face) -> u32
     if faulty {
         let row = face.nodes;
         let looked = looked_at(face.count);
-        let first = bit(wrong_count(frame.dim, face.count));
+        let first = bit_if(wrong_count(frame.dim, face.count), 1);
         let second = node_marks(frame.nodes, looked, row);
         let third = again_marks(looked, row);
         return join(first, second, third);

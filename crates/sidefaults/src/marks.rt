@@ -4,19 +4,11 @@ use super::faces::is_open;
 use super::faces::is_same;
 use super::sound::any_side_fault;
 use faults::Frame;
+use faults::bit_if;
 use mesh::Face;
 ghost use mathlib.Core.Path.{_≡_};
-ghost use Prim.Native.Nat.{_*_};
 ghost use Rattle.mesh.specs.Rows.{places};
-ghost use Rattle.faults.specs.Sides.{one};
 ghost use Rattle.faults.specs.Marked.{sidePart};
-
-// A bit where the test is passed, else nothing.
-fn bit_if(test: bool, bit: u32) -> u32
-    ensures { λ r. ⌜ r ≡ bit * one test ⌝ }
-{
-    if test { bit } else { 0 }
-}
 
 // Kind 4 has two bits, one a side; the others have one each.
 pub fn side_part(frame: Frame, face: Face) -> u32

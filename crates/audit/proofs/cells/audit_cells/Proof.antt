@@ -1,25 +1,28 @@
 -- `audit::cells::audit_cells` meets its contract: each loop holds what is left to lay. Assumes nothing.
 use Prim.Native.Nat.{_≤_, _-_, _+_, _*_}
 use native.Mathlib.Omega.{arith}
-use mathlib.Core.Path.{refl}
+use mathlib.Core.Path.{_≡_, refl}
 use borrow.Author.Needs.{needs}
 use lib.ListN.{getD}
 use lib.Dec.{lit≤}
+use Rattle.mesh.specs.Rows.{cellAt}
 use Rattle.faults.specs.Over.{each}
 use Rattle.faults.specs.Faults.{cellFaultAt, faultsOfCell}
 use Rattle.faults.specs.All.{cellFaults}
-use Rattle.audit.proofs.Loop.{Lays, start, turn, done, cell-visited}
+use Rattle.audit.proofs.Loop.{Lays, begun, start, turn, skip, ended, done, cell-visited}
+use Rattle.audit.proofs.Listing.{cellBits, cell-bits-at, cell-some, cell-here, cell-rest, cell-empty, kind-visited}
 use Rattle.audit.proofs.cells.audit_cells.Statement.{statement}
 use Rattle.audit.proofs.cells.audit_cells.Tie as tie
 
 abbrev Inv-kinds : tie.InvT-kinds
-Inv-kinds frame rows counts list₀ cells s₀ c cell count number kind₀ list s kind =
+Inv-kinds frame rows counts list₀ cells s₀ c count number marks₀ kind₀ list s marks kind =
     (8 ≤ kind)
     × (kind ≤ 10)
-    × Lays list₀ s₀ (each (cellFaultAt frame number cell count) kind (10 - kind)) (faultsOfCell frame number cell count) (kind - 8) list s
+    × (marks ≡ cellBits frame (cellAt rows (c - 1)) count kind)
+    × Lays list₀ s₀ (each (cellFaultAt frame number (cellAt rows (c - 1)) count) kind (10 - kind)) (faultsOfCell frame number (cellAt rows (c - 1)) count) (kind - 8) list s
 
 abbrev μ-kinds : tie.MeasureT-kinds
-μ-kinds frame rows counts list₀ cells s₀ c cell count number kind₀ list s kind = 10 - kind
+μ-kinds frame rows counts list₀ cells s₀ c count number marks₀ kind₀ list s marks kind = marks
 
 abbrev Inv-cells : tie.InvT-cells
 Inv-cells frame rows counts list₀ cells s₀ c₀ list s c =
@@ -33,11 +36,14 @@ abbrev μ-cells : tie.MeasureT-cells
 cast-cells : tie.Need-cast-cells Inv-kinds μ-kinds Inv-cells μ-cells
 cast-cells c = search needs
 
+sound-cells-requires : tie.Need-sound-cells-requires Inv-kinds μ-kinds Inv-cells μ-cells
+sound-cells-requires c κs = let s = c .before .before .before .before in (s .pre .1, s .pre .3)
+
 cells-holds : tie.Need-cells-holds Inv-kinds μ-kinds Inv-cells μ-cells
-cells-holds c = (omega arith, start _ 1 0 _ _ 0 (omega arith))
+cells-holds c = let e = c .sound-cells .ensures in (e .within, skip (e .quiet) (begun _))
 
 cell-of-requires : tie.Need-cell-of-requires Inv-kinds μ-kinds Inv-cells μ-cells
-cell-of-requires c κs = omega (arith, c .before .before .before .before .before .before .pre .3)
+cell-of-requires c κs = omega (arith, c .before .before .before .before .before .before .before .pre .3)
 
 mul-count : tie.Need-mul-count Inv-kinds μ-kinds Inv-cells μ-cells
 mul-count c = search needs
@@ -51,26 +57,34 @@ add-c c = search needs
 cast-number : tie.Need-cast-number Inv-kinds μ-kinds Inv-cells μ-cells
 cast-number c = search needs
 
+cell-marks-requires : tie.Need-cell-marks-requires Inv-kinds μ-kinds Inv-cells μ-cells
+cell-marks-requires c κs = search needs
+
 kinds-holds : tie.Need-kinds-holds Inv-kinds μ-kinds Inv-cells μ-cells
 unfolding faultsOfCell
-kinds-holds c = (lit≤ tt, lit≤ tt, start _ 8 8 10 2 0 refl)
+kinds-holds c = (lit≤ tt, lit≤ tt, cell-bits-at _ _ _ _ _ (c .before .before .cell-of .ensures) (c .cell-marks .ensures), start _ 8 8 10 2 0 refl)
 
 cells-less : tie.Need-cells-less Inv-kinds μ-kinds Inv-cells μ-cells
 cells-less c = omega arith
 
 cells-again : tie.Need-cells-again Inv-kinds μ-kinds Inv-cells μ-cells
 cells-again c =
-    let l = c .before .before .before .before .before in (
+    let k = c .before .kinds in
+    let l = c .before .before .before .before .before .before in (
       omega arith,
       turn _ (l .cells .c + 1) _ _ 2 _ (omega arith) (omega arith) (l .cells .inv .1)
-          (cell-visited _ _ (l .before .before .before .before .before .args .counts .now) _ _ (c .before .before .before .cell-of .ensures) (done _ _ _ 10 2 (omega arith) (omega arith) (c .before .kinds .inv .2))),
+          (cell-visited _ _ (l .before .before .before .before .before .before .args .counts .now) _
+          (ended 2 (cell-empty _ _ _ _ _ (k .inv .2) (c .kinds-test .left)) (omega (arith, k .inv .1)) (k .inv .3))),
     )
+
+extra-of-requires : tie.Need-extra-of-requires Inv-kinds μ-kinds Inv-cells μ-cells
+extra-of-requires c κs = search needs
 
 visit-requires : tie.Need-visit-requires Inv-kinds μ-kinds Inv-cells μ-cells
 visit-requires c κs =
-    let k = c .before .before in
-    let l = k .before .before .before .before in
-    omega (arith, k .kinds .inv .2 .few, l .cells .inv .1 .few, l .before .before .before .before .before .pre .2)
+    let k = c .before .before .before in
+    let l = k .before .before .before .before .before in
+    omega (arith, k .kinds .inv .3 .few, k .kinds .inv .1, l .cells .inv .1 .few, l .before .before .before .before .before .before .pre .2)
 
 add-kind : tie.Need-add-kind Inv-kinds μ-kinds Inv-cells μ-cells
 add-kind c = search needs
@@ -80,8 +94,16 @@ kinds-less c = omega arith
 
 kinds-again : tie.Need-kinds-again Inv-kinds μ-kinds Inv-cells μ-cells
 kinds-again c =
-    let k = c .before .before .before .before .before .kinds in
-    (omega arith, omega arith, turn _ (k .kind) _ 10 1 _ (omega arith) (omega arith) (k .inv .2) (c .before .before .visit .ensures))
+    let v = c .before .before in
+    let x = v .before .before in
+    let i = x .before in
+    let k = i .before .kinds in
+    let h = cell-some _ _ _ _ (k .inv .2) (i .kinds-test .taken) in (
+      omega arith,
+      omega (arith, h),
+      cell-rest _ _ _ _ (k .inv .2) h,
+      turn _ (k .kind) _ 10 1 _ h (omega (arith, k .inv .0)) (k .inv .3) (kind-visited _ _ _ _ _ (cell-here _ _ _ _ (k .inv .2) h) (x .extra-of .ensures) (v .visit .ensures)),
+    )
 
 same-length : tie.Need-same-length Inv-kinds μ-kinds Inv-cells μ-cells
 same-length c = c .before .cells .inv .1 .kept
@@ -98,15 +120,18 @@ audit-cells-spec =
     Inv-cells
     μ-cells
     cast-cells
+    sound-cells-requires
     cells-holds
     cell-of-requires
     mul-count
     shared-slice-read-count
     add-c
     cast-number
+    cell-marks-requires
     kinds-holds
     cells-less
     cells-again
+    extra-of-requires
     visit-requires
     add-kind
     kinds-less

@@ -13,8 +13,8 @@ looked-at-requires c κs = search needs
 wrong-count-requires : tie.Need-wrong-count-requires
 wrong-count-requires c κs = search needs
 
-bit-requires : tie.Need-bit-requires
-bit-requires c κs = search needs
+bit-if-requires : tie.Need-bit-if-requires
+bit-if-requires c κs = search needs
 
 node-marks-requires : tie.Need-node-marks-requires
 node-marks-requires c κs = let l = c .before .before in looked-few (l .before .before .before .before .args .face .count) (l .looked-at .ensures)
@@ -28,7 +28,7 @@ join-requires c κs =
     let l = b .before .before in
     let a = l .before .before .before .before .args in
     nodes-small (a .frame) (a .face)
-    (node-kinds (a .frame) (a .face) (l .looked-at .ensures) (b .before .wrong-count .ensures) (b .bit .ensures) (c .before .node-marks .ensures) (c .again-marks .ensures))
+    (node-kinds (a .frame) (a .face) (l .looked-at .ensures) (b .before .wrong-count .ensures) (b .bit-if .ensures) (c .before .node-marks .ensures) (c .again-marks .ensures))
 
 returns : tie.Need-returns
 returns c =
@@ -37,7 +37,7 @@ returns c =
     let l = b .before .before in
     let a = l .before .before .before .before .args in
     nodes-joined (a .frame) (a .face)
-    (node-kinds (a .frame) (a .face) (l .looked-at .ensures) (b .before .wrong-count .ensures) (b .bit .ensures) (m .before .node-marks .ensures) (m .again-marks .ensures))
+    (node-kinds (a .frame) (a .face) (l .looked-at .ensures) (b .before .wrong-count .ensures) (b .bit-if .ensures) (m .before .node-marks .ensures) (m .again-marks .ensures))
     (c .join .ensures)
 
 returns-2 : tie.Need-returns-2
@@ -52,7 +52,7 @@ node-part-spec =
     any-node-fault-requires
     looked-at-requires
     wrong-count-requires
-    bit-requires
+    bit-if-requires
     node-marks-requires
     again-marks-requires
     join-requires

@@ -1,7 +1,7 @@
--- `sidefaults::marks::bit_if` meets its contract: passed and not. Assumes nothing.
+-- `faults::bits::bit_if` meets its contract: passed and not. Assumes nothing.
 use native.Mathlib.Omega.{arith}
-use Rattle.sidefaults.proofs.marks.bit_if.Statement.{statement}
-use Rattle.sidefaults.proofs.marks.bit_if.Tie as tie
+use Rattle.faults.proofs.bits.bit_if.Statement.{statement}
+use Rattle.faults.proofs.bits.bit_if.Tie as tie
 
 returns : tie.Need-returns
 returns c = rw (c .if1 .taken) (omega arith)

@@ -1,9 +1,9 @@
--- `audit::faces::visit` meets its contract: a bit that is set, or is not. Assumes nothing.
+-- `audit::visits::visit` meets its contract: a bit that is set, or is not. Assumes nothing.
 use borrow.Author.Tests.{eq-eqb, ne-eqb}
 use Rattle.audit.proofs.Loop.{visited-one, visited-none}
 use borrow.Author.Needs.{needs}
-use Rattle.audit.proofs.faces.visit.Statement.{statement}
-use Rattle.audit.proofs.faces.visit.Tie as tie
+use Rattle.audit.proofs.visits.visit.Statement.{statement}
+use Rattle.audit.proofs.visits.visit.Tie as tie
 
 add-total : tie.Need-add-total
 add-total c = search needs
