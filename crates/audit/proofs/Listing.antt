@@ -102,14 +102,14 @@ module _ (frame : Frame) (number : ℕ) (face : Face) where
   unfolding faultAt
   clear k p h = rw h
 
-  pub face-empty : (k p : ℕ) {m : ℕ} → m ≡ bitsLeft frame face k p → m ≤ 0 → each (faultAt places frame number face k) p (positionsOf places face k - p) ≡ []
-  face-empty k p e h = bits-empty (hasFault places frame face k) (positionsOf places face k) p e (faultAt places frame number face k) (clear k) h
+  pub positions-empty : (k p : ℕ) {m : ℕ} → m ≡ bitsLeft frame face k p → m ≤ 0 → each (faultAt places frame number face k) p (positionsOf places face k - p) ≡ []
+  positions-empty k p e h = bits-empty (hasFault places frame face k) (positionsOf places face k) p e (faultAt places frame number face k) (clear k) h
 
   kind-empty : (k : ℕ) → kindMarks places frame face k ≡ 0 → faultsOfKind places frame number face k ≡ []
   unfolding faultsOfKind
   kind-empty k z =
       let e : positionsOf places face k - 0 ≡ positionsOf places face k = omega arith in
-      rw e at (face-empty k 0 (bits-all frame face k) (rw z (omega arith)))
+      rw e at (positions-empty k 0 (bits-all frame face k) (rw z (omega arith)))
 
   pub kinds-empty : (k : ℕ) {m : ℕ} → m ≡ kindsLeft frame face k → m ≤ 0 → each (faultsOfKind places frame number face) k (8 - k) ≡ []
   kinds-empty k e h =
@@ -151,8 +151,8 @@ module _ (frame : Frame) (number : ℕ) (cell : Cell) (count : ℕ) where
   unfolding cellFaultAt
   clear-cell k h = rw h
 
-  pub cell-empty : (k : ℕ) {m : ℕ} → m ≡ cellBits frame cell count k → m ≤ 0 → each (cellFaultAt frame number cell count) k (10 - k) ≡ []
-  cell-empty k e h = bits-empty (hasCellFault frame cell count) 10 k e (cellFaultAt frame number cell count) clear-cell h
+  pub cell-kinds-empty : (k : ℕ) {m : ℕ} → m ≡ cellBits frame cell count k → m ≤ 0 → each (cellFaultAt frame number cell count) k (10 - k) ≡ []
+  cell-kinds-empty k e h = bits-empty (hasCellFault frame cell count) 10 k e (cellFaultAt frame number cell count) clear-cell h
 
   pub kind-visited : (k : ℕ) {x y : ℕ} {old new : List ℕ} {s r : Stand} → x ≡ one (hasCellFault frame cell count k) → y ≡ cellExtra count k
       → Visited old s (faultIf (eqb x 1) (fault k number y)) 1 new r → Visited old s (cellFaultAt frame number cell count k) 1 new r
@@ -173,4 +173,4 @@ unfolding faultsOfCell
 cell-quiet frame rows counts c cells cell h e m none =
     let z : c + 1 - 1 ≡ c = omega arith in
     quiet-more (cellFaults frame rows (λ i. getD counts (i - 1) 0)) c cells h
-    (rw (z, ← e) (cell-empty frame (c + 1) cell (getD counts c 0) 8 (cell-bits frame cell (getD counts c 0) m) none))
+    (rw (z, ← e) (cell-kinds-empty frame (c + 1) cell (getD counts c 0) 8 (cell-bits frame cell (getD counts c 0) m) none))

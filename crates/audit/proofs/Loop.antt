@@ -14,7 +14,6 @@ use Rattle.records.specs.Laid.{Laid, laid, step, run}
 use Rattle.records.proofs.Laid.{run-append, run-length}
 use Rattle.faults.specs.Over.{each}
 use Rattle.mesh.specs.declared.Face.{Face}
-use Rattle.mesh.specs.declared.Cell.{Cell}
 use Rattle.faults.specs.declared.Frame.{Frame}
 use Rattle.faults.specs.Faults.{faultsOfCell, faultIf, anyFault}
 use Rattle.faults.proofs.Any.{face-empty}

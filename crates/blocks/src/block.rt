@@ -2,9 +2,6 @@
 ghost use mathlib.Core.Path.{_≡_};
 ghost use Rattle.blocks.specs.Blocks.{blanksOf, carryOf, wordsOf, blockOf};
 
-// The highest bit of each lane.
-const HIGHS: u64 = 0x8080808080808080;
-
 // A block of digits and blanks: how many words end in it, and how many digits stand at its end.
 pub enum Block {
     Is { words: u32, tail: u32 },
@@ -21,8 +18,8 @@ fn blanks(x: u64) -> u64
     let others = digits::unlike(masked, 0x0909090909090909);
     let both = space & line;
     let all = both & others;
-    let high = all & HIGHS;
-    high ^ HIGHS
+    let high = all & digits::HIGHS;
+    high ^ digits::HIGHS
 }
 
 // The highest bit of the lowest lane, where digits stand before the block.
@@ -36,7 +33,7 @@ fn carry_of(tail: u32) -> u64
 fn words_in(none: u64, tail: u32) -> u32
     ensures { λ r. ⌜ r ≡ wordsOf none tail ⌝ }
 {
-    let digits = none ^ HIGHS;
+    let digits = none ^ digits::HIGHS;
     let up = digits << 8;
     let carry = carry_of(tail);
     let before = up | carry;

@@ -7,8 +7,9 @@ use mathlib.Core.Bool.{Bool, true, false, not, _&&_}
 use borrow.Author.Tests.{ltb-true, le-leb, lt-leb, leb-true, leb-false}
 use lib.Dec.{leb}
 use lib.ListN.{length, take, drop, getD, length-append, length-drop, length-take, take-append-drop}
-use lib.Seq.{drop-drop, getD-drop, take-append-add, length-take-le}
+use lib.Seq.{getD-drop, take-append-add, length-take-le}
 use Rattle.facts.proofs.Branch.{split}
+use Rattle.facts.proofs.First.{first-inside, first-is, first-behind}
 use Rattle.facts.proofs.Decides.{and-split}
 use Rattle.tokens.specs.Tokens.{isBlank, startOf}
 use Rattle.tokens.specs.Listed.{tokensFrom}
@@ -118,15 +119,6 @@ module _ (s : List ℕ) (at n : ℕ) where
   At c t left = Partial s at n c t left
 
   module _ (c : ℕ) (b : ℕ) (rest : List ℕ) (here : drop c s ≡ b ∷ rest) where
-    inside : c < length s
-    inside = omega (arith, ap length here, length-drop c s)
-
-    byte : getD s c 0 ≡ b
-    byte = (let k : c + 0 ≡ c = omega arith in ap (λ (i : ℕ). getD s i 0) (sym k)) ∙ sym (getD-drop c s 0 0) ∙ ap (λ l. getD l 0 0) here
-
-    next-drop : drop (c + 1) s ≡ rest
-    next-drop = sym (drop-drop 1 c s) ∙ ap (drop 1) here
-
     digit-more : (t left : ℕ) → At c t left → isHex b ≡ true → suc t ≤ 8 → At (c + 1) (suc t) left
     digit-more t left p e h =
         let z : c - t ≡ c + 1 - suc t = omega (arith, p .back) in
@@ -135,13 +127,13 @@ module _ (s : List ℕ) (at n : ℕ) where
           run = p .run ++ (b ∷ []);
           long = length-append (p .run) (b ∷ []) ∙ omega (arith, p .long);
           figures = figures-append 16 (p .run) (b ∷ []) (p .figures) (ltb-true (digitOf b) 16 e, tt);
-          parted = ap (λ (k : ℕ). drop k s) (sym z) ∙ p .parted ∙ ap (λ l. p .run ++ l) (here ∙ ap (λ l. b ∷ l) (sym next-drop)) ∙ sym (append-assoc (p .run) (b ∷ []) (drop (c + 1) s));
+          parted = ap (λ (k : ℕ). drop k s) (sym z) ∙ p .parted ∙ ap (λ l. p .run ++ l) (here ∙ ap (λ l. b ∷ l) (sym (first-behind s c b rest here))) ∙ sym (append-assoc (p .run) (b ∷ []) (drop (c + 1) s));
           few = h;
           back = omega (arith, p .back);
         }
 
     blank-here : isBlank b ≡ true → isBlank (getD s c 0) ≡ true
-    blank-here e = ap isBlank byte ∙ e
+    blank-here e = ap isBlank (first-is s c b rest here) ∙ e
 
     nothing : (left : ℕ) → Going s (wordUnit (length s) Word.Hex) at n (c + 1) left → At (c + 1) 0 left
     nothing left g =
@@ -152,14 +144,14 @@ module _ (s : List ℕ) (at n : ℕ) where
     blank-more zero left p d e h =
         let z : c - 0 ≡ c = omega arith in
         let y : left ≡ left - 0 = omega arith in
-        subst (λ (k : ℕ). At (c + 1) 0 k) y (nothing left (going-blank s at n c left (subst (λ (k : ℕ). Going s (wordUnit (length s) Word.Hex) at n k left) z (p .going)) inside (blank-here e)))
+        subst (λ (k : ℕ). At (c + 1) 0 k) y (nothing left (going-blank s at n c left (subst (λ (k : ℕ). Going s (wordUnit (length s) Word.Hex) at n k left) z (p .going)) (first-inside s c b rest here) (blank-here e)))
     blank-more (suc t) left p d e h =
         let z : c - suc t + suc t ≡ c = omega (arith, p .back) in
-        let inn : c - suc t + suc t < length s = omega (arith, z, inside) in
+        let inn : c - suc t + suc t < length s = omega (arith, z, first-inside s c b rest here) in
         let blank : isBlank (getD s (c - suc t + suc t) 0) ≡ true = ap (λ (k : ℕ). isBlank (getD s k 0)) z ∙ blank-here e in
         let front : Begins (NoDigit 16) (drop c s) = subst (Begins (NoDigit 16)) (sym here) d in
         let g = going-word s at n (c - suc t) (suc t) left (p .run) (drop c s) (p .long) (p .figures) (p .few) (omega arith) (p .parted) inn blank front (p .going) (omega (arith, h)) in
-        nothing (left - 1) (going-blank s at n c (left - 1) (subst (λ (k : ℕ). Going s (wordUnit (length s) Word.Hex) at n k (left - 1)) z g) inside (blank-here e))
+        nothing (left - 1) (going-blank s at n c (left - 1) (subst (λ (k : ℕ). Going s (wordUnit (length s) Word.Hex) at n k (left - 1)) z g) (first-inside s c b rest here) (blank-here e))
 
     -- one byte, and then the others
     abbrev Behind : List ℕ → ℕ → ℕ → Type 0
@@ -181,7 +173,7 @@ module _ (s : List ℕ) (at n : ℕ) where
   bytes-all (b ∷ w) rest c t left d p y f l =
       let z : c + 1 + length w ≡ c + suc (length w) = omega arith in
       subst (λ (k : ℕ). At k (tail t (b ∷ w)) (left - ends t (b ∷ w))) z
-      (byte-step c b (w ++ rest) d w t left p (λ k m q g h. bytes-all w rest (c + 1) k m (next-drop c b (w ++ rest) d) q (y .1) g h) (isHex b) refl (y .0) f l)
+      (byte-step c b (w ++ rest) d w t left p (λ k m q g h. bytes-all w rest (c + 1) k m (first-behind s c b (w ++ rest) d) q (y .1) g h) (isHex b) refl (y .0) f l)
 
   pub block-more : (x c t left k t′ : ℕ) → At c t left → ((w : List ℕ) → Laned w x → length w ≡ 8 → Read t w k t′) → Laned (take 8 (drop c s)) x → 8 ≤ left → c + 8 ≤ length s
       → (k ≤ 8) × At (c + 8) t′ (left - k)

@@ -1,6 +1,6 @@
 -- What `group_of` answers of some bytes is what `digitsIn` reads of them. Assumes nothing.
 use Prim.Native.Nat.{ℕ, zero, suc, _+_, _-_, _*_, _/_, _%_, _^_, _≤_, _<_}
-use native.Mathlib.Nat.{mul-assoc, add-mul, zero-mul, mod-eq-of-lt, mul-add-mod-self-right, le-trans}
+use native.Mathlib.Nat.{mul-assoc, add-mul, mod-eq-of-lt, mul-add-mod-self-right, le-trans}
 use native.Mathlib.Omega.{arith}
 use mathlib.Core.Path.{_≡_, refl, sym, ap, ap₂, subst, _∙_}
 use mathlib.Core.List.{List, [], _∷_, _++_, map}
@@ -15,7 +15,7 @@ use Rattle.digits.specs.declared.group.Group.{Group}
 use Rattle.digits.specs.Digits.{digitOf, Digits, digitsIn, Figures, worth}
 use Rattle.digits.specs.Lanes.{lanes, Under, Laned, marksOf, valuesOf, foldedOf, baseOf, groupBy, Grouped}
 use Rattle.digits.proofs.Digits.{digitsIn-part}
-use Rattle.digits.proofs.Laning.{under-append, under-more, under-zeros, lanes-append, lanes-lt, lanes-zeros, trailing-shift, written, written-zeros}
+use Rattle.digits.proofs.Laning.{under-append, under-more, under-zeros, lanes-append, lanes-lt, lanes-zeros, padded, padded-eight, padded-under, padded-same, trailing-shift, written, written-zeros}
 use Rattle.digits.proofs.Grouping.{markOf, value, value-is, marks-in, values-in, folded-in}
 
 -- ---- how many digits there are
@@ -131,39 +131,21 @@ digits-padded hex (b ∷ w) v n m =
     split (ltb (digitOf b) (baseOf hex)) (λ p. rw (p, digitsIn) (digits-padded hex w (v * baseOf hex + digitOf b) (suc n) m)) (λ p. rw (p, digitsIn) refl)
 
 module _ (hex : Bool) (x : ℕ) (w : List ℕ) (l : Laned w x) (h : length w ≤ 8) where
-  m : ℕ
-  m = 8 - length w
-
-  padded : List ℕ
-  padded = w ++ replicate m 0
-
   abbrev read : Digits
-  read = digitsIn (baseOf hex) 0 0 padded
-
-  padded-eight : length padded ≡ 8
-  unfolding padded m
-  padded-eight = length-append w (replicate m 0) ∙ omega (arith, length-replicate {A = ℕ} m 0)
-
-  padded-under : Under 256 padded
-  unfolding padded m
-  padded-under = under-append 256 w (replicate m 0) (l .bytes) (under-zeros 256 m (lit≤ tt))
-
-  padded-same : x ≡ lanes 8 padded
-  unfolding padded m
-  padded-same = l .same ∙ sym (lanes-append 8 w (replicate m 0) ∙ ap (λ (z : ℕ). z * 2 ^ (8 * length w) + lanes 8 w) (lanes-zeros 8 m) ∙ omega (arith, zero-mul (2 ^ (8 * length w))))
+  read = digitsIn (baseOf hex) 0 0 (padded w)
 
   padded-read : groupBy read ≡ groupBy (digitsIn (baseOf hex) 0 0 w)
-  unfolding padded m
-  padded-read = digits-padded hex w 0 0 m
+  unfolding padded
+  padded-read = digits-padded hex w 0 0 (8 - length w)
 
   pub gathered-count : trailingZeros 64 (marksOf hex x) / 8 ≡ digitsIn (baseOf hex) 0 0 w .count
   gathered-count =
-      ap (λ (y : ℕ). trailingZeros 64 (marksOf hex y) / 8) padded-same ∙ eight-counted hex padded padded-eight padded-under ∙ ap (λ (g : Group). g .count) padded-read
+      ap (λ (y : ℕ). trailingZeros 64 (marksOf hex y) / 8) (padded-same x w l) ∙ eight-counted hex (padded w) (padded-eight w h) (padded-under x w l) ∙ ap (λ (g : Group). g .count) padded-read
 
   gathered-value : foldedOf (baseOf hex) (valuesOf hex x * 2 ^ (64 - digitsIn (baseOf hex) 0 0 w .count * 8) % 2 ^ 64) ≡ digitsIn (baseOf hex) 0 0 w .value
   gathered-value =
-      ap₂ (λ (y c : ℕ). foldedOf (baseOf hex) (valuesOf hex y * 2 ^ (64 - c * 8) % 2 ^ 64)) padded-same (ap (λ (g : Group). g .count) (sym padded-read))
-      ∙ eight-written hex padded padded-eight padded-under ∙ ap (λ (g : Group). g .value) padded-read
+      ap₂ (λ (y c : ℕ). foldedOf (baseOf hex) (valuesOf hex y * 2 ^ (64 - c * 8) % 2 ^ 64)) (padded-same x w l) (ap (λ (g : Group). g .count) (sym padded-read))
+      ∙ eight-written hex (padded w) (padded-eight w h) (padded-under x w l) ∙ ap (λ (g : Group). g .value) padded-read
 
 none-written : (base : ℕ) (w : List ℕ) → digitsIn base 0 0 w .count ≡ 0 → digitsIn base 0 0 w .value ≡ 0
 none-written base w e = let r = digitsIn-part base w 0 0 in r .value ∙ nothing (r .run) (omega (arith, e, r .count))

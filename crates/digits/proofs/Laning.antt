@@ -4,11 +4,12 @@ use native.Mathlib.Nat.{mul-assoc, mul-one, mul-zero, zero-mul, add-mul, mul-com
 use native.Mathlib.Omega.{arith}
 use mathlib.Core.Path.{_≡_, refl, sym, ap, ap₂, subst, _∙_}
 use mathlib.Core.List.{List, [], _∷_, _++_, map}
-use lib.ListN.{length, replicate}
+use lib.ListN.{length, replicate, length-append, length-replicate}
+use lib.Dec.{lit≤}
 use lib.Bits.{bitAnd, shifted-half, shifted-even, and-block, and-mask, and-zero-r}
 use lib.Pow.{pow-pos, pow-add, high, low, split, ones-lt, pow-mono}
 use lib.Count.{trailingZeros, under}
-use Rattle.digits.specs.Lanes.{lanes, Under}
+use Rattle.digits.specs.Lanes.{lanes, Under, Laned}
 
 -- ---- lists
 pub under-append : (n : ℕ) (u v : List ℕ) → Under n u → Under n v → Under n (u ++ v)
@@ -56,6 +57,25 @@ module _ (k : ℕ) where
       let l : ℕ = lanes k (map g w) in
       ap (λ (m : ℕ). m * 2 ^ k + g b * c) (lanes-times g c w)
       ∙ omega (arith, add-mul (l * 2 ^ k) (g b) c, mul-assoc l c (2 ^ k), mul-assoc l (2 ^ k) c, ap (λ (m : ℕ). l * m) (mul-comm c (2 ^ k)))
+
+-- ---- fewer than eight bytes are followed by zeros
+unfoldable pub padded : List ℕ → List ℕ
+padded w = w ++ replicate (8 - length w) 0
+
+pub padded-eight : (w : List ℕ) → length w ≤ 8 → length (padded w) ≡ 8
+unfolding padded
+padded-eight w h = length-append w (replicate (8 - length w) 0) ∙ omega (arith, length-replicate {A = ℕ} (8 - length w) 0)
+
+module _ (x : ℕ) (w : List ℕ) (l : Laned w x) where
+  pub padded-under : Under 256 (padded w)
+  unfolding padded
+  padded-under = under-append 256 w (replicate (8 - length w) 0) (l .bytes) (under-zeros 256 (8 - length w) (lit≤ tt))
+
+  pub padded-same : x ≡ lanes 8 (padded w)
+  unfolding padded
+  padded-same =
+      let m : ℕ = 8 - length w in
+      l .same ∙ sym (lanes-append 8 w (replicate m 0) ∙ ap (λ (z : ℕ). z * 2 ^ (8 * length w) + lanes 8 w) (lanes-zeros 8 m) ∙ omega (arith, zero-mul (2 ^ (8 * length w))))
 
 -- ---- an operation that works on blocks apart works on lanes apart
 abbrev pub Apart : (ℕ → ℕ → ℕ) → Type 0

@@ -1,13 +1,11 @@
 // Two hexadecimal numbers among eight bytes, found together: the second does not wait for the first.
+use super::HIGHS;
 ghost use mathlib.Core.Path.{_≡_};
 ghost use Prim.Native.Nat.{_≤_};
 ghost use Rattle.digits.specs.Couples.{endsOf, endIn, nibblesOf, coupleBy, coupleOf};
 use super::group::folded;
 use super::group::marks;
 use super::group::values;
-
-// The highest bit of each lane.
-const HIGHS: u64 = 0x8080808080808080;
 
 // Both numbers, the place of the byte between them and that of the byte behind the second.
 pub enum Couple {

@@ -1,10 +1,8 @@
 // The digits at the start of eight bytes, all looked at at once and with no branch: which digit comes next can't be foreseen.
+use super::HIGHS;
 ghost use mathlib.Core.Path.{_≡_};
 ghost use Prim.Native.Nat.{_+_, _*_, _^_, _≤_, _<_};
 ghost use Rattle.digits.specs.Lanes.{figuresOf, lettersOf, shownOf, marksOf, valuesOf, pairedOf, foldedOf, baseOf, Grouped};
-
-// The highest bit of each lane.
-const HIGHS: u64 = 0x8080808080808080;
 
 // The number that the digits write, and how many they are.
 pub struct Group {

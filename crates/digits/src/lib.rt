@@ -14,3 +14,6 @@ pub use lanes::bytes_at;
 pub use lanes::unlike;
 pub use quick::Hexes;
 pub use quick::hexes_in;
+
+// The highest bit of each of eight bytes.
+pub const HIGHS: u64 = 0x8080808080808080;

@@ -5,3 +5,4 @@ pub mod Bytes
 pub mod Tail
 pub mod Sets
 pub mod Maps
+pub mod First

@@ -1,18 +1,16 @@
 -- The first byte that does not go on with what is passed, looked for in eight bytes at once. Assumes nothing.
 use Prim.Native.Nat.{ℕ, zero, suc, _+_, _-_, _*_, _/_, _^_, _≤_, _<_}
-use native.Mathlib.Nat.{zero-mul}
 use native.Mathlib.Omega.{arith}
 use mathlib.Core.Path.{_≡_, refl, sym, ap, ap₂, _∙_}
 use mathlib.Core.List.{List, [], _∷_, _++_, map}
 use mathlib.Core.Bool.{Bool, true, false}
-use lib.Dec.{lit≤}
-use lib.ListN.{length, replicate, take, drop, getD, length-append, length-drop, length-take, length-replicate, take-append-drop}
-use lib.Seq.{drop-drop, getD-drop}
+use lib.ListN.{length, replicate, take, drop, length-drop, length-take, take-append-drop}
 use lib.Count.{trailingZeros}
 use Rattle.facts.proofs.Branch.{split}
+use Rattle.facts.proofs.First.{first-inside, first-is, first-behind}
 use Rattle.tokens.proofs.Passing.{Passes}
 use Rattle.digits.specs.Lanes.{lanes, Under, Laned}
-use Rattle.digits.proofs.Laning.{under-append, under-zeros, lanes-append, lanes-zeros}
+use Rattle.digits.proofs.Laning.{padded, padded-eight, padded-under, padded-same}
 use Rattle.digits.proofs.Gathered.{passed, stopped}
 
 -- a lane's highest bit, set where a byte does not go on
@@ -41,10 +39,10 @@ module _ (goes : ℕ → Bool) where
   first-step w ih true = ap (λ (z : ℕ). z / 8) (passed true w (shown w)) ∙ omega (arith, ih)
   first-step w ih false = ap (λ (z : ℕ). z / 8) (stopped true w (shown w)) ∙ omega arith
 
-  first-is : (w : List ℕ) → trailingZeros (8 * length w) (shown w) / 8 ≡ first w
+  zeros-first : (w : List ℕ) → trailingZeros (8 * length w) (shown w) / 8 ≡ first w
   unfolding lanes trailingZeros
-  first-is [] = refl
-  first-is (b ∷ w) = first-step w (first-is w) (goes b)
+  zeros-first [] = refl
+  zeros-first (b ∷ w) = first-step w (zeros-first w) (goes b)
 
   first-on : (w v : List ℕ) → first w < length w → first (w ++ v) ≡ first w
   first-on [] v h = absurd (omega (arith, h))
@@ -57,20 +55,11 @@ module _ (goes : ℕ → Bool) where
   -- ---- where it stands in the file
   module _ (to : List ℕ → ℕ → ℕ) (pass : Passes goes to) (s : List ℕ) where
     module _ (i b : ℕ) (rest : List ℕ) (here : drop i s ≡ b ∷ rest) where
-      inside : i < length s
-      inside = omega (arith, ap length here, length-drop i s)
-
-      byte : getD s i 0 ≡ b
-      byte = (let k : i + 0 ≡ i = omega arith in ap (λ (j : ℕ). getD s j 0) (sym k)) ∙ sym (getD-drop i s 0 0) ∙ ap (λ l. getD l 0 0) here
-
-      behind : drop (i + 1) s ≡ rest
-      behind = sym (drop-drop 1 i s) ∙ ap (drop 1) here
-
       passed-by : goes b ≡ true → to s (i + 1) ≡ to s i
-      passed-by e = pass .more s i inside (ap goes byte ∙ e)
+      passed-by e = pass .more s i (first-inside s i b rest here) (ap goes (first-is s i b rest here) ∙ e)
 
       found-at : goes b ≡ false → i ≡ to s i
-      found-at e = pass .stop s i inside (ap goes byte ∙ e)
+      found-at e = pass .stop s i (first-inside s i b rest here) (ap goes (first-is s i b rest here) ∙ e)
 
     none-there : (w rest : List ℕ) (i : ℕ) → drop i s ≡ w ++ rest → shown w ≡ 0 → to s (i + length w) ≡ to s i
     unfolding lanes
@@ -78,7 +67,7 @@ module _ (goes : ℕ → Bool) where
     none-there (b ∷ w) rest i d z =
         split (goes b)
         (λ p. let k : i + suc (length w) ≡ i + 1 + length w = omega arith in
-        ap (to s) k ∙ none-there w rest (i + 1) (behind i b (w ++ rest) d) (omega (arith, z)) ∙ passed-by i b (w ++ rest) d p)
+        ap (to s) k ∙ none-there w rest (i + 1) (first-behind s i b (w ++ rest) d) (omega (arith, z)) ∙ passed-by i b (w ++ rest) d p)
         (λ p. absurd (omega (arith, z, ap off p)))
 
     found-step : (w rest : List ℕ) (i b : ℕ) (d : drop i s ≡ b ∷ (w ++ rest)) → (0 < shown w → (first w < length w) × (i + 1 + first w ≡ to s (i + 1))) → (q : Bool) → goes b ≡ q
@@ -91,7 +80,7 @@ module _ (goes : ℕ → Bool) where
     found-there : (w rest : List ℕ) (i : ℕ) → drop i s ≡ w ++ rest → 0 < shown w → (first w < length w) × (i + first w ≡ to s i)
     unfolding lanes
     found-there [] rest i d o = absurd (omega (arith, o))
-    found-there (b ∷ w) rest i d o = found-step w rest i b d (found-there w rest (i + 1) (behind i b (w ++ rest) d)) (goes b) refl o
+    found-there (b ∷ w) rest i d o = found-step w rest i b d (found-there w rest (i + 1) (first-behind s i b (w ++ rest) d)) (goes b) refl o
 
   module _ (f : ℕ → ℕ) (show : Shows goes f) where
     -- ---- fewer than eight bytes are followed by zeros
@@ -106,25 +95,18 @@ module _ (goes : ℕ → Bool) where
     padded-shown (b ∷ w) m = ap (λ (k : ℕ). k * 2 ^ 8 + off (goes b)) (padded-shown w m)
 
     module _ (x : ℕ) (w : List ℕ) (l : Laned w x) (h : length w ≤ 8) (here : ℕ) (e : here ≡ f x) where
-      m : ℕ
-      m = 8 - length w
-
-      padded-is : here ≡ shown (w ++ replicate m 0)
-      unfolding m
-      padded-is =
-          let n : length (w ++ replicate m 0) ≡ 8 = length-append w (replicate m 0) ∙ omega (arith, length-replicate {A = ℕ} m 0) in
-          let u = under-append 256 w (replicate m 0) (l .bytes) (under-zeros 256 m (lit≤ tt)) in
-          let p : x ≡ lanes 8 (w ++ replicate m 0) = l .same ∙ sym (lanes-append 8 w (replicate m 0) ∙ ap (λ (z : ℕ). z * 2 ^ (8 * length w) + lanes 8 w) (lanes-zeros 8 m) ∙ omega (arith, zero-mul (2 ^ (8 * length w)))) in
-          e ∙ ap f p ∙ show .lanewise (w ++ replicate m 0) n u
+      padded-is : here ≡ shown (padded w)
+      padded-is = e ∙ ap f (padded-same x w l) ∙ show .lanewise (padded w) (padded-eight w h) (padded-under x w l)
 
       shown-is : here ≡ shown w
-      shown-is = padded-is ∙ padded-shown w m
+      unfolding padded
+      shown-is = padded-is ∙ padded-shown w (8 - length w)
 
       step-is : first w < length w → trailingZeros 64 here / 8 ≡ first w
-      unfolding m
+      unfolding padded
       step-is y =
-          let n : 8 * length (w ++ replicate m 0) ≡ 64 = ap (λ (k : ℕ). 8 * k) (length-append w (replicate m 0)) ∙ omega (arith, length-replicate {A = ℕ} m 0) in
-          ap₂ (λ (k z : ℕ). trailingZeros k z / 8) (sym n) padded-is ∙ first-is (w ++ replicate m 0) ∙ first-on w (replicate m 0) y
+          let n : 8 * length (padded w) ≡ 64 = ap (λ (k : ℕ). 8 * k) (padded-eight w h) in
+          ap₂ (λ (k z : ℕ). trailingZeros k z / 8) (sym n) padded-is ∙ zeros-first (padded w) ∙ first-on w (replicate (8 - length w) 0) y
 
 -- ---- a loop's steps
 module _ {goes : ℕ → Bool} {to : List ℕ → ℕ → ℕ} {f : ℕ → ℕ} (pass : Passes goes to) (show : Shows goes f) (s : List ℕ) (i x here : ℕ) (l : Laned (take 8 (drop i s)) x) (e : here ≡ f x) (o : i < length s) where

@@ -4,9 +4,6 @@ ghost use Rattle.tokens.specs.Tokens.{markOf};
 ghost use Rattle.finds.specs.Marks.{marksOf};
 use tokens::Cursor;
 
-// The highest bit of each byte.
-const HIGHS: u64 = 0x8080808080808080;
-
 const QUOTE: u8 = 34;
 
 const LEFT: u8 = 40;
@@ -21,8 +18,8 @@ fn marks(x: u64) -> u64
     let odd = x | 0x0101010101010101;
     let rounds = digits::unlike(odd, 0x2929292929292929);
     let others = texts & rounds;
-    let high = others & HIGHS;
-    high ^ HIGHS
+    let high = others & digits::HIGHS;
+    high ^ digits::HIGHS
 }
 
 // Eight bytes at a time; fewer at the end are looked at one by one.

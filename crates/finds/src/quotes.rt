@@ -3,16 +3,13 @@ ghost use mathlib.Core.Path.{_≡_};
 ghost use Rattle.tokens.specs.Tokens.{quoteOf};
 ghost use Rattle.finds.specs.Quotes.{quotesOf};
 
-// The highest bit of each byte.
-const HIGHS: u64 = 0x8080808080808080;
-
 // The highest bit of each byte that is a quote.
 fn quotes(x: u64) -> u64
     ensures { λ r. ⌜ r ≡ quotesOf x ⌝ }
 {
     let others = digits::unlike(x, 0x2222222222222222);
-    let high = others & HIGHS;
-    high ^ HIGHS
+    let high = others & digits::HIGHS;
+    high ^ digits::HIGHS
 }
 
 // The first quote at or behind a place; without one the file's length, or the place past it.

@@ -10,7 +10,7 @@ use Rattle.faults.specs.Over.{each}
 use Rattle.faults.specs.Faults.{cellFaultAt, faultsOfCell}
 use Rattle.faults.specs.All.{cellFaults}
 use Rattle.audit.proofs.Loop.{Lays, begun, start, turn, skip, ended, done, cell-visited}
-use Rattle.audit.proofs.Listing.{cellBits, cell-bits-at, cell-some, cell-here, cell-rest, cell-empty, kind-visited}
+use Rattle.audit.proofs.Listing.{cellBits, cell-bits-at, cell-some, cell-here, cell-rest, cell-kinds-empty, kind-visited}
 use Rattle.audit.proofs.cells.audit_cells.Statement.{statement}
 use Rattle.audit.proofs.cells.audit_cells.Tie as tie
 
@@ -74,7 +74,7 @@ cells-again c =
       omega arith,
       turn _ (l .cells .c + 1) _ _ 2 _ (omega arith) (omega arith) (l .cells .inv .1)
           (cell-visited _ _ (l .before .before .before .before .before .before .args .counts .now) _
-          (ended 2 (cell-empty _ _ _ _ _ (k .inv .2) (c .kinds-test .left)) (omega (arith, k .inv .1)) (k .inv .3))),
+          (ended 2 (cell-kinds-empty _ _ _ _ _ (k .inv .2) (c .kinds-test .left)) (omega (arith, k .inv .1)) (k .inv .3))),
     )
 
 extra-of-requires : tie.Need-extra-of-requires Inv-kinds μ-kinds Inv-cells μ-cells

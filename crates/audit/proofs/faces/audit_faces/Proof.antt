@@ -13,7 +13,7 @@ use Rattle.faults.proofs.Any.{few-positions}
 use Rattle.faults.specs.All.{faceFaults}
 use Rattle.faults.specs.Counts.{Tallying}
 use Rattle.audit.proofs.Loop.{Lays, start, turn, skip, ended, done}
-use Rattle.audit.proofs.Listing.{kindsLeft, bitsLeft, kinds-at, kinds-some, kinds-here, kinds-rest, kinds-empty, face-some, face-here, face-rest, face-empty, face-visited}
+use Rattle.audit.proofs.Listing.{kindsLeft, bitsLeft, kinds-at, kinds-some, kinds-here, kinds-rest, kinds-empty, face-some, face-here, face-rest, positions-empty, face-visited}
 use Rattle.faults.proofs.Counting.{tallying-none, tallying-from, tallying-on, tallying-all}
 use Rattle.audit.proofs.faces.audit_faces.Statement.{statement}
 use Rattle.audit.proofs.faces.audit_faces.Tie as tie
@@ -143,7 +143,7 @@ kinds-again c =
       omega (arith, h),
       kinds-rest _ _ _ (k .inv .2) h,
       turn _ (k .kind) _ 8 4 _ h (omega (arith, k .inv .0)) (k .inv .3)
-          (ended 4 (face-empty _ _ _ _ _ (l .inv .2) (c .positions-test .left)) (omega (arith, l .inv .0, l .inv .1)) (l .inv .3)),
+          (ended 4 (positions-empty _ _ _ _ _ (l .inv .2) (c .positions-test .left)) (omega (arith, l .inv .0, l .inv .1)) (l .inv .3)),
     )
 
 sound-to-requires-2 : tie.Need-sound-to-requires-2 Inv-positions μ-positions Inv-kinds μ-kinds Inv-faces μ-faces
