@@ -14,9 +14,10 @@ use Rattle.records.specs.Laid.{Laid, laid, step, run}
 use Rattle.records.proofs.Laid.{run-append, run-length}
 use Rattle.faults.specs.Over.{each}
 use Rattle.mesh.specs.declared.Face.{Face}
+use Rattle.mesh.specs.declared.Cell.{Cell}
 use Rattle.faults.specs.declared.Frame.{Frame}
-use Rattle.faults.specs.Faults.{faultsOfCell, faultIf, anyFault}
-use Rattle.faults.proofs.Any.{face-empty}
+use Rattle.faults.specs.Faults.{faultsOfCell, faultIf, anyFault, anyCellFault}
+use Rattle.faults.proofs.Any.{face-empty, cell-empty}
 use Rattle.faults.proofs.Over.{each-more, each-none}
 use Rattle.audit.specs.declared.Stand.{Stand}
 use Rattle.audit.specs.Steps.{Visited, Passed}
@@ -78,7 +79,7 @@ module _ (b : Bool) (f : Fault) (old : List ℕ) (s : Stand) where
   visited-none h = rw h (record { ran = refl; counted = omega arith; few = omega arith })
 
 -- a row without any fault adds nothing to the list: what is left to lay is what the rows behind it have
-pub quiet-more : (g : ℕ → List Fault) (i n : ℕ) → i < n → g (i + 1) ≡ [] → each g (i + 1) (n - i) ≡ each g (i + 1 + 1) (n - (i + 1))
+quiet-more : (g : ℕ → List Fault) (i n : ℕ) → i < n → g (i + 1) ≡ [] → each g (i + 1) (n - i) ≡ each g (i + 1 + 1) (n - (i + 1))
 quiet-more g i n h e = each-more g (i + 1) i n h ∙ ap (λ (l : List Fault). l ++ each g (i + 1 + 1) (n - (i + 1))) e
 
 -- no row was passed yet
@@ -90,6 +91,12 @@ pub face-quiet : (n : ℕ) (frame : Frame) (rows : List ℕ) (f faces : ℕ) (fa
 face-quiet n frame rows f faces face h e none =
     let z : f + 1 - 1 ≡ f = omega arith in
     quiet-more (faceFaults n frame rows) f faces h (rw (z, ← e) (face-empty n frame (f + 1) face none))
+
+pub cell-quiet : (frame : Frame) (rows counts : List ℕ) (c cells : ℕ) (cell : Cell) → c < cells → cell ≡ cellAt rows c → anyCellFault (frame .dim) cell (getD counts c 0) ≡ false
+    → each (cellFaults frame rows (λ i. getD counts (i - 1) 0)) (c + 1) (cells - c) ≡ each (cellFaults frame rows (λ i. getD counts (i - 1) 0)) (c + 1 + 1) (cells - (c + 1))
+cell-quiet frame rows counts c cells cell h e none =
+    let z : c + 1 - 1 ≡ c = omega arith in
+    quiet-more (cellFaults frame rows (λ i. getD counts (i - 1) 0)) c cells h (rw (z, ← e) (cell-empty frame (c + 1) cell (getD counts c 0) none))
 
 -- the count of the cell of number c + 1 is the one at c
 pub cell-visited : (frame : Frame) (rows counts : List ℕ) (c : ℕ) {old new : List ℕ} {s r : Stand} {d : ℕ}

@@ -44,7 +44,7 @@ fn sound_cells(frame: Frame, rows: &[u32], counts: &[u32]) -> usize
     while c < cells {
         let cell = cell_of(rows, c);
         let count = counts[c];
-        if 0 < faults::cell_marks(frame, cell, count) {
+        if faults::any_cell_fault(frame.dim, cell, count) {
             return c;
         }
         c += 1;

@@ -1,19 +1,20 @@
--- A face without any fault has an empty list. Assumes nothing.
+-- A face or a cell without any fault has an empty list. Assumes nothing.
 -- no test passes: nothing is listed
 use Prim.Native.Nat.{ℕ, zero, suc, _+_, _≤_, zero-le}
 use native.Mathlib.Omega.{arith}
 use mathlib.Core.Path.{_≡_, refl, sym, _∙_}
-use mathlib.Core.Bool.{Bool, true, false, _&&_, _||_}
+use mathlib.Core.Bool.{Bool, true, false, _&&_, _||_, or-false}
 use borrow.Author.Tests.{leb-true}
 use lib.Dec.{leb, eqb}
 use Rattle.facts.proofs.Decides.{and-split}
 use mathlib.Core.List.{List, []}
 use Rattle.facts.proofs.Branch.{split, differ}
 use Rattle.mesh.specs.declared.Face.{Face}
+use Rattle.mesh.specs.declared.Cell.{Cell}
 use Rattle.records.specs.declared.Fault.{Fault}
 use Rattle.faults.specs.declared.Frame.{Frame}
 use Rattle.faults.specs.Over.{each, anyOf}
-use Rattle.faults.specs.Faults.{lookedAt, positionsOf, hasFault, faultAt, faultsOfKind, faultsOfFace, anyOfKind, nodeFault, sideFault, anyFault}
+use Rattle.faults.specs.Faults.{lookedAt, positionsOf, hasFault, faultAt, faultsOfKind, faultsOfFace, anyOfKind, nodeFault, sideFault, anyFault, wrongSides, hasCellFault, cellFaultAt, faultsOfCell, anyCellFault}
 
 each-empty : (t : ℕ → Bool) (g : ℕ → List Fault) (i n : ℕ) → ((j : ℕ) → t j ≡ false → g j ≡ []) → anyOf t i n ≡ false → each g i n ≡ []
 unfolding anyOf each
@@ -29,6 +30,15 @@ module _ (n : ℕ) (frame : Frame) (i : ℕ) (face : Face) where
   pub face-empty : anyFault n frame face ≡ false → faultsOfFace n frame i face ≡ []
   unfolding anyFault faultsOfFace
   face-empty e = each-empty (anyOfKind n frame face) (faultsOfKind n frame i face) 1 7 kind-empty e
+
+module _ (frame : Frame) (i : ℕ) (cell : Cell) (count : ℕ) where
+  any-kinds : anyOf (hasCellFault frame cell count) 8 2 ≡ anyCellFault (frame .dim) cell count
+  unfolding anyOf hasCellFault anyCellFault
+  any-kinds = rw (or-false (wrongSides cell count))
+
+  pub cell-empty : anyCellFault (frame .dim) cell count ≡ false → faultsOfCell frame i cell count ≡ []
+  unfolding faultsOfCell cellFaultAt
+  cell-empty e = each-empty (hasCellFault frame cell count) (cellFaultAt frame i cell count) 8 2 (λ k h. rw h) (any-kinds ∙ e)
 
 -- no kind is looked for at more positions than there are places, two sides apart
 pub few-positions : (n : ℕ) (face : Face) (k : ℕ) → 2 ≤ n → positionsOf n face k ≤ n

@@ -148,3 +148,7 @@ cellFaultAt frame i cell count kind = faultIf (hasCellFault frame cell count kin
 
 unfoldable pub faultsOfCell : Frame → ℕ → Cell → ℕ → List Fault
 faultsOfCell frame i cell count = each (cellFaultAt frame i cell count) 8 2
+
+-- whether a cell has a fault of either kind
+unfoldable pub anyCellFault : ℕ → Cell → ℕ → Bool
+anyCellFault dim cell count = wrongElement dim (cell .element) || wrongSides cell count

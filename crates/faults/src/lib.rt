@@ -3,6 +3,7 @@ mod bits;
 mod cells;
 
 pub use bits::bit_if;
+pub use cells::any_cell_fault;
 pub use cells::cell_marks;
 
 // Dimension and totals that faults are judged by.

@@ -1,13 +1,12 @@
 -- `audit::cells::sound_cells` meets its contract: no cell so far has a fault. Assumes nothing.
 use Prim.Native.Nat.{_-_}
 use native.Mathlib.Omega.{arith}
-use mathlib.Core.Path.{_∙_}
+use mathlib.Core.Path.{sym, _∙_}
 use borrow.Author.Needs.{needs}
 use lib.ListN.{getD}
 use Rattle.faults.specs.All.{cellFaults}
 use Rattle.audit.specs.Steps.{Passed}
-use Rattle.audit.proofs.Loop.{passed-none}
-use Rattle.audit.proofs.Listing.{cell-quiet}
+use Rattle.audit.proofs.Loop.{passed-none, cell-quiet}
 use Rattle.audit.proofs.cells.sound_cells.Statement.{statement}
 use Rattle.audit.proofs.cells.sound_cells.Tie as tie
 
@@ -32,8 +31,8 @@ mul-count c = search needs
 shared-slice-read-count : tie.Need-shared-slice-read-count Inv-loop μ-loop
 shared-slice-read-count c = search needs
 
-cell-marks-requires : tie.Need-cell-marks-requires Inv-loop μ-loop
-cell-marks-requires c κs = search needs
+any-cell-fault-requires : tie.Need-any-cell-fault-requires Inv-loop μ-loop
+any-cell-fault-requires c κs = search needs
 
 returns : tie.Need-returns Inv-loop μ-loop
 returns c = c .before .before .before .before .before .loop .inv
@@ -51,7 +50,7 @@ loop-again c =
     let a = l .before .before .before .before .args in
     record {
       within = omega arith;
-      quiet = l .loop .inv .quiet ∙ cell-quiet _ _ (a .counts .now) _ _ _ (omega arith) (t .before .before .cell-of .ensures) (t .cell-marks .ensures) (c .if1 .left);
+      quiet = l .loop .inv .quiet ∙ cell-quiet _ _ (a .counts .now) _ _ _ (omega arith) (t .before .before .cell-of .ensures) (sym (t .any-cell-fault .ensures) ∙ c .if1 .left);
     }
 
 returns-2 : tie.Need-returns-2 Inv-loop μ-loop
@@ -68,7 +67,7 @@ sound-cells-spec =
     cell-of-requires
     mul-count
     shared-slice-read-count
-    cell-marks-requires
+    any-cell-fault-requires
     returns
     add-c
     loop-less
