@@ -34,7 +34,7 @@ fn cell_of(rows: &[u32], c: usize) -> Cell
 }
 
 // The first cell, counted from 0, that has a fault; the number of cells, if none has.
-// In most meshes none has, and then this loop is all. It is short: under an emulator a loop that lies across two pages of code is slow.
+// In most meshes none has, and then this short loop is the whole pass.
 fn sound_cells(frame: Frame, rows: &[u32], counts: &[u32]) -> usize
     requires { ⌜ (frame .cells ≤ length (now counts)) × (frame .cells ≤ rowsIn cellWords (now rows)) ⌝ }
     ensures { λ r. ⌜ Passed (cellFaults frame (now (rows .entry)) (λ c. getD (now (counts .entry)) (c - 1) 0)) (frame .cells) r ⌝ }
