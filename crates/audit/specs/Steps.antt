@@ -3,17 +3,17 @@ use Prim.Native.Nat.{ℕ, _+_, _-_, _*_, _≤_, _<_}
 use mathlib.Core.Path.{_≡_}
 use mathlib.Core.List.{List, _++_}
 use mathlib.Core.Bool.{Bool, true}
-use lib.ListN.{length, drop}
-use Rattle.mesh.specs.Rows.{places, faceAt}
+use lib.ListN.{length, drop, getD}
+use Rattle.mesh.specs.Rows.{places, faceAt, cellAt}
 use Rattle.mesh.specs.declared.Face.{Face}
 use Rattle.records.specs.declared.Fault.{Fault}
 use Rattle.records.specs.Record.{narrow}
 use Rattle.records.specs.Laid.{penAt, laid, run}
 use Rattle.faults.specs.declared.Frame.{Frame}
 use Rattle.faults.specs.Over.{each, listed}
-use Rattle.faults.specs.Faults.{anyFault}
+use Rattle.faults.specs.Faults.{anyFault, anyCellFault}
 use Rattle.faults.specs.Sides.{countOver}
-use Rattle.faults.specs.All.{faceFaults}
+use Rattle.faults.specs.All.{faceFaults, cellFaults}
 use Rattle.faults.specs.Counts.{bump, Tallying}
 use Rattle.audit.specs.declared.Stand.{Stand}
 
@@ -30,6 +30,11 @@ pub record Visited (old : List ℕ) (s : Stand) (fs : List Fault) (n : ℕ) (new
 pub record Passed (g : ℕ → List Fault) (n r : ℕ) : Type 0 where
   pub within : r ≤ n
   pub quiet : each g 1 n ≡ each g (r + 1) (n - r)
+
+-- the cells up to the first with a fault: it is the one at r, or all are sound and r is their number
+pub record SoundCells (frame : Frame) (rows counts : List ℕ) (r : ℕ) : Type 0 where
+  pub passed : Passed (cellFaults frame rows (λ c. getD counts (c - 1) 0)) (frame .cells) r
+  pub faulty : r < frame .cells → anyCellFault (frame .dim) (cellAt rows r) (getD counts r 0) ≡ true
 
 -- both sides of a face were counted, and a test of it answered
 pub record Tallied (test : Frame → Face → Bool) (frame : Frame) (face : Face) (first last : List ℕ) (r : Bool) : Type 0 where

@@ -11,7 +11,7 @@ ghost use Rattle.mesh.specs.Rows.{cellWords, rowsIn, cellAt};
 ghost use Rattle.faults.specs.Over.{each};
 ghost use Rattle.faults.specs.Faults.{cellExtra};
 ghost use Rattle.faults.specs.All.{cellFaults};
-ghost use Rattle.audit.specs.Steps.{Visited, Passed};
+ghost use Rattle.audit.specs.Steps.{Visited, SoundCells};
 
 fn extra_of(kind: u32, count: u32) -> u32
     ensures { λ r. ⌜ r ≡ cellExtra count kind ⌝ }
@@ -37,7 +37,7 @@ fn cell_of(rows: &[u32], c: usize) -> Cell
 // In most meshes none has, and then this short loop is the whole pass.
 fn sound_cells(frame: Frame, rows: &[u32], counts: &[u32]) -> usize
     requires { ⌜ (frame .cells ≤ length (now counts)) × (frame .cells ≤ rowsIn cellWords (now rows)) ⌝ }
-    ensures { λ r. ⌜ Passed (cellFaults frame (now (rows .entry)) (λ c. getD (now (counts .entry)) (c - 1) 0)) (frame .cells) r ⌝ }
+    ensures { λ r. ⌜ SoundCells frame (now (rows .entry)) (now (counts .entry)) r ⌝ }
 {
     let cells = frame.cells as usize;
     let mut c: usize = 0;

@@ -7,7 +7,7 @@ use mathlib.Core.Bool.{Bool, true, false, not, _&&_}
 use borrow.Author.Tests.{ltb-true, le-leb, lt-leb, leb-true, leb-false}
 use lib.Dec.{leb}
 use lib.ListN.{length, take, drop, getD, length-append, length-drop, length-take, take-append-drop}
-use lib.Seq.{getD-drop, take-append-add, length-take-le}
+use lib.Seq.{take-append-add, length-take-le}
 use Rattle.facts.proofs.Branch.{split}
 use Rattle.facts.proofs.First.{first-inside, first-is, first-behind}
 use Rattle.facts.proofs.Decides.{and-split}
@@ -77,8 +77,7 @@ module _ (s : List ℕ) (at n : ℕ) where
         first : (run rest : List ℕ) → 1 ≤ length run → Figures 16 run → drop c s ≡ run ++ rest → 42 ≤ getD s c 0
         first [] rest h f p = absurd (omega (arith, h))
         first (b ∷ run) rest h f p =
-            let z : getD s c 0 ≡ b = (let k : c + 0 ≡ c = omega arith in ap (λ (i : ℕ). getD s i 0) (sym k)) ∙ sym (getD-drop c s 0 0) ∙ ap (λ l. getD l 0 0) p in
-            omega (arith, z, digit-high b (f .0))
+            omega (arith, first-is s c b (run ++ rest) p, digit-high b (f .0))
 
     starts : c ≡ startOf s c
     starts = start-here s c (omega (arith, inside)) high

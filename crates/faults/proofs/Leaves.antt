@@ -1,14 +1,14 @@
 -- The ways of a cell's tests through the code, each over plain numbers. Assumes nothing.
 use Prim.Native.Nat.{ℕ, _≤_, _<_}
 use native.Mathlib.Omega.{arith}
-use mathlib.Core.Path.{_≡_, sym}
+use mathlib.Core.Path.{_≡_, sym, _∙_}
 use mathlib.Core.List.{[], _∷_}
-use mathlib.Core.Bool.{true, false, not, or-false}
+use mathlib.Core.Bool.{Bool, true, false, not, or-false}
 use borrow.Author.Tests.{lt-ltb, ltb-true, ltb-false, le-leb, lt-leb, eq-eqb, ne-eqb, eqb-true, eqb-false}
 use lib.Dec.{eqb, ltb}
 use Rattle.facts.proofs.Branch.{split}
 use Rattle.mesh.specs.declared.Cell.{Cell}
-use Rattle.faults.specs.Faults.{isIn, wrongElement, sidesFor, wrongSides}
+use Rattle.faults.specs.Faults.{isIn, wrongElement, sidesFor, wrongSides, anyCellFault}
 use Rattle.faults.proofs.Halves.{eqb-swap}
 
 module _ (cell : Cell) (count : ℕ) where
@@ -23,6 +23,16 @@ module _ (cell : Cell) (count : ℕ) where
 
   pub sides-count : (cell .ztype ≡ 0 → ⊥) → 1 ≤ cell .element → cell .element ≤ 6 → not (eqb count (sidesFor (cell .element))) ≡ wrongSides cell count
   sides-count e l h = rw (ne-eqb (cell .ztype) 0 e, le-leb 1 (cell .element) l, le-leb (cell .element) 6 h)
+
+-- a wrong element, and else the sides
+module _ (dim : ℕ) (cell : Cell) (count : ℕ) {e : Bool} (p : e ≡ wrongElement dim (cell .element)) where
+  pub any-element : e ≡ true → true ≡ anyCellFault dim cell count
+  unfolding anyCellFault
+  any-element q = rw (anyCellFault, sym p ∙ q)
+
+  pub any-sides : {r : Bool} → e ≡ false → r ≡ wrongSides cell count → r ≡ anyCellFault dim cell count
+  unfolding anyCellFault
+  any-sides q s = rw (anyCellFault, sym p ∙ q) s
 
 -- the sides of the elements 2 and 3, and of 5 and 6
 pub sides-4 : (e : ℕ) → 1 ≤ e → (e ≡ 1 → ⊥) → e < 4 → 4 ≡ sidesFor e

@@ -40,7 +40,7 @@ sound-cells-requires : tie.Need-sound-cells-requires Inv-kinds μ-kinds Inv-cell
 sound-cells-requires c κs = let s = c .before .before .before .before in (s .pre .1, s .pre .3)
 
 cells-holds : tie.Need-cells-holds Inv-kinds μ-kinds Inv-cells μ-cells
-cells-holds c = let e = c .sound-cells .ensures in (e .within, skip (e .quiet) (begun _))
+cells-holds c = let e = c .sound-cells .ensures .passed in (e .within, skip (e .quiet) (begun _))
 
 cell-of-requires : tie.Need-cell-of-requires Inv-kinds μ-kinds Inv-cells μ-cells
 cell-of-requires c κs = omega (arith, c .before .before .before .before .before .before .before .pre .3)
