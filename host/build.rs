@@ -1,4 +1,4 @@
-//! Tells the linker where the proved library is. `rt staticlib boundary` makes it; host/build has a copy whose functions are placed in pages.
+//! Tells the linker where the proved library is. `rt staticlib boundary` makes it.
 
 use std::path::Path;
 

@@ -4,12 +4,10 @@ machine=$(uname -m)
 least_rust=82
 host_target=$home/host/target
 export CARGO_TARGET_DIR="$host_target"
-export RAVNEKET_ARCHIVES="$host_target/archives"
 
 case $machine in
 x86_64)
     runner=
-    binutils=
     binary=$host_target/release/ravneket
     ;;
 aarch64)
@@ -18,7 +16,6 @@ aarch64)
     export CARGO_BUILD_TARGET=x86_64-unknown-linux-gnu
     export CARGO_TARGET_X86_64_UNKNOWN_LINUX_GNU_LINKER=x86_64-linux-gnu-gcc
     runner=/usr/bin/qemu-x86_64
-    binutils=x86_64-linux-gnu-
     export CARGO_TARGET_X86_64_UNKNOWN_LINUX_GNU_RUNNER=$runner
     export RAVNEKET_RUNNER=$runner RAVNEKET_CC=x86_64-linux-gnu-gcc
     binary=$host_target/$CARGO_BUILD_TARGET/release/ravneket
@@ -42,7 +39,6 @@ has_rust() {
 
 has_tools() {
     has_rust || return 1
-    command -v "${binutils}objdump" >/dev/null 2>&1 && command -v "${binutils}objcopy" >/dev/null 2>&1 || return 1
     if [ "$machine" = aarch64 ]; then
         command -v x86_64-linux-gnu-gcc >/dev/null 2>&1 && [ -x "$runner" ]
     else

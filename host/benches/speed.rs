@@ -1,6 +1,7 @@
 //! How fast the proved reader and audit are, beside the plain ones of the differential test, in the same run.
 //!
 //! `cargo bench --bench speed -- [--quick] [--runs N] [--no-verdict]`. Ends with status 1 if a row is under 0.7 of the plain speed.
+//! Under an emulator it prints the ratios and gives no verdict: there they tell how code is translated, not how fast it is.
 
 #[path = "../tests/generate/mod.rs"]
 mod generate;
@@ -20,6 +21,7 @@ use ravneket::raw;
 struct Options {
     runs: usize,
     quick: bool,
+    emulated: bool,
     verdict: bool,
 }
 
@@ -28,7 +30,9 @@ fn options() -> Options {
     let has = |word: &str| words.iter().any(|other| other == word);
     let quick = has("--quick");
     let runs = words.iter().position(|word| word == "--runs").and_then(|at| words.get(at + 1)?.parse().ok());
-    Options { runs: runs.unwrap_or(if quick { 3 } else { 9 }).max(1), quick, verdict: !has("--no-verdict") }
+    let emulated = std::env::var("RAVNEKET_RUNNER").is_ok_and(|runner| !runner.is_empty());
+    let verdict = !emulated && !has("--no-verdict");
+    Options { runs: runs.unwrap_or(if quick { 3 } else { 9 }).max(1), quick, emulated, verdict }
 }
 
 /// A mesh to be read: its family, its size among the family's, its numbering, its text.
@@ -183,9 +187,8 @@ fn spoilt(faces: &[u32]) -> Vec<u32> {
 fn main() {
     let options = options();
     println!("proved and plain in turn, median of {} runs; tables are allocated and cleared before each and this is not timed", options.runs);
-    let emulated = std::env::var("RAVNEKET_RUNNER").is_ok_and(|runner| !runner.is_empty());
-    if emulated {
-        println!("under an emulator: seconds mean little here, only the ratio counts");
+    if options.emulated {
+        println!("under an emulator: neither seconds nor ratios are a measure of the code, and no verdict is given");
     }
     println!("a ratio is of runs one behind the other; a wide span means that the machine had other work");
     let mut meshes = Vec::new();
@@ -199,7 +202,7 @@ fn main() {
     growth(&meshes, &measured);
     match peak_memory() {
         Some(memory) => {
-            println!("\npeak memory {memory} KiB{}", if emulated { ", the emulator's with it" } else { "" })
+            println!("\npeak memory {memory} KiB{}", if options.emulated { ", the emulator's with it" } else { "" })
         }
         None => println!("\npeak memory is not told by this system"),
     }
@@ -218,8 +221,8 @@ fn reads(options: &Options, meshes: &[Mesh], worst: &mut Worst) -> Vec<(Pair, Le
     let line = |mesh: &Mesh| {
         let (pair, lent) = read(options, &mesh.text);
         worst.add(pair, &mesh.name);
-        let bytes = mesh.text.len();
-        println!("{:38} {bytes:8} {:7} {}", mesh.name, rows(&lent) + lent.answer[3] as usize, pair.line(bytes));
+        let (bytes, all) = (mesh.text.len(), rows(&lent) + lent.answer[3] as usize);
+        println!("{:38} {bytes:8} {all:7} {}", mesh.name, pair.line(bytes, options.verdict));
         (pair, lent)
     };
     meshes.iter().map(line).collect()
@@ -236,7 +239,7 @@ fn audits(options: &Options, meshes: &[Mesh], measured: &[(Pair, Lent)], worst: 
             let (pair, faults) = audit(options, lent, &faces);
             let name = format!("{}{name}", mesh.name);
             worst.add(pair, &name);
-            println!("{name:38} {faults:8} {:7} {}", rows(lent), pair.line(rows(lent)));
+            println!("{name:38} {faults:8} {:7} {}", rows(lent), pair.line(rows(lent), options.verdict));
         }
     }
     println!("rows are faces and cells, Mr/s millions of them a second");

@@ -1,3 +1,4 @@
 pub mod Copying
 pub mod Said
 pub mod Only
+mod Cases

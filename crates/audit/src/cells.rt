@@ -19,7 +19,7 @@ fn extra_of(kind: u32, count: u32) -> u32
     if kind == 9 { count } else { 0 }
 }
 
-// The cell row at c, as `mesh::cell_at` has it, without its test for the end: the caller knows that the row is there.
+// The cell row at c, counted from 0. The caller knows that the row is there, so nothing is asked.
 fn cell_of(rows: &[u32], c: usize) -> Cell
     requires { ⌜ c < rowsIn cellWords (now rows) ⌝ }
     ensures { λ r. ⌜ r ≡ cellAt (now (rows .entry)) c ⌝ }

@@ -14,7 +14,7 @@ ghost use Rattle.mesh.specs.Rows.{places, faceWords, rowsIn, faceAt};
 ghost use Rattle.faults.specs.Counts.{Tallying};
 ghost use Rattle.audit.specs.Steps.{Sound, Faced};
 
-// The face row at f, as `mesh::face_at` has it, without its test for the end: the caller knows that the row is there.
+// The face row at f, counted from 0. The caller knows that the row is there, so nothing is asked.
 fn face_of(rows: &[u32], f: usize) -> Face
     requires { ⌜ f < rowsIn (faceWords places) (now rows) ⌝ }
     ensures { λ r. ⌜ r ≡ faceAt places (now (rows .entry)) f ⌝ }

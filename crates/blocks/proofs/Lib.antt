@@ -1,3 +1,4 @@
 pub mod Counted
 pub mod Blocked
 pub mod Only
+mod Cases

@@ -4,3 +4,4 @@ pub mod Flatly
 pub mod Shapes
 pub mod Alike
 mod Partly
+mod Cases

@@ -7,3 +7,4 @@ mod Leading
 mod Mildly
 mod Eights
 pub mod Only
+mod Cases

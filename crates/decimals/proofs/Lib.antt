@@ -9,3 +9,4 @@ pub mod Readings
 pub mod Led
 pub mod Harmless
 pub mod Only
+mod Cases

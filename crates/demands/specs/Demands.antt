@@ -55,7 +55,7 @@ left κ r x = out (valuesOf r) (now (x .1 .1 .1 .1 .1 .1 .0)) (now (x .1 .1 .1 .
 pub record FileAnswered (κ : Lfts 6) (a : Args read.signature κ) (r : Res read.signature κ) (x : AtExit read.ended κ) : Type 0 where
   -- no second answer and no second content. Not: a contract that two answers meet (numbers/any_place_would_do)
   pub only : (r′ : Res read.signature κ) (x′ : AtExit read.ended κ) → Post κ a r′ x′ → (r ≡ r′) × (leaves κ x ≡ leaves κ x′)
-  -- number, section and byte as layout/specs/Read defines them. Not: another number (survey/missing_declaration_called_untiled), another section (survey/sections_counted_from_one)
+  -- number, section and byte as layout/specs/Read defines them. Not: another number (endings/missing_declaration_called_untiled), another section (survey/sections_counted_from_one)
   pub told : shown r ≡ shown (readOf (now (a .0)) (takes κ a) .reply)
   -- a number from 1 to 14, a section that the file has begun, a byte of the file or its end
   pub points : (w : File.Refusal) (k o : ℕ) → r ≡ Reply.Refused w k o → Points (now (a .0)) w k o
@@ -74,9 +74,9 @@ pub record Fits (s : List ℕ) (lent : Lent) : Type 0 where
   pub laid : LaidText (roomOf lent) s items
 
 pub record FileRead (κ : Lfts 6) (a : Args read.signature κ) (r : Res read.signature κ) (x : AtExit read.ended κ) : Type 0 where
-  -- 0 is Accepted. Not: refusing all files (survey/all_files_refused), one fixed answer (survey/one_fixed_answer)
+  -- 0 is Accepted. Not: refusing all files (survey/all_files_refused), one fixed answer (endings/one_fixed_answer)
   pub accepted : (shown r .number ≡ 0) ↔ Fits (now (a .0)) (takes κ a)
-  -- Not: accepting without filling rows (filling/accepting_without_filling, filling/nodes_never_written), other numbers than the text's (filling/cell_number_clamped)
+  -- Not: accepting without filling rows (filling/accepting_without_filling, filling/nodes_never_written), other numbers than the text's (rows/cell_number_clamped)
   pub holds : (m : Mesh) → (record { reply = r; held = leaves κ x } ≡ acceptedAs m) ↔ Says (now (a .0)) (takes κ a) m
   -- what is held is the one mesh that the text says
   pub one : (m n : Mesh) → record { reply = r; held = leaves κ x } ≡ acceptedAs m → Says (now (a .0)) (takes κ a) n → m ≡ n

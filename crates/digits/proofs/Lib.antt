@@ -6,3 +6,4 @@ pub mod Grouping
 pub mod Gathered
 mod Beside
 pub mod Coupling
+mod Cases

@@ -1,2 +1,3 @@
 mod Closing
 pub mod Only
+mod Cases

@@ -11,3 +11,4 @@ pub mod Only
 pub mod Marked
 pub mod All
 pub mod Counting
+mod Cases

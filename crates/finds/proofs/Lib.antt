@@ -1,3 +1,4 @@
 mod Eights
 mod Shown
 pub mod Only
+mod Cases

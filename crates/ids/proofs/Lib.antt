@@ -1,2 +1,3 @@
 mod Figured
 pub mod Alike
+mod Cases

@@ -4,3 +4,4 @@ pub mod Numbers
 pub mod Listing
 pub mod Faults
 pub mod Only
+mod Cases

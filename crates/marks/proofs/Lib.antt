@@ -1,2 +1,3 @@
 mod Joined
 pub mod Only
+mod Cases

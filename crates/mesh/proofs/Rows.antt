@@ -4,13 +4,13 @@ use native.Mathlib.Nat.{le-div-iff-mul-le}
 use native.Mathlib.Omega.{arith}
 use mathlib.Core.Path.{_≡_, refl, sym, ap, _∙_}
 use mathlib.Core.List.{List, [], _∷_}
-use borrow.Author.Tests.{lt-ltb, le-ltb, ltb-true}
+use borrow.Author.Tests.{lt-ltb, ltb-true}
 use lib.Dec.{ltb}
 use lib.ListN.{length, take, drop, getD, length-drop, length-replicate}
 use lib.Seq.{drop-cons, length-take-le}
 use Rattle.facts.proofs.Branch.{either}
 use Rattle.mesh.specs.declared.Face.{Face}
-use Rattle.mesh.specs.Rows.{faceWords, cellWords, rowsIn, rowAt, faceOf, noFace, faceAt, cellOf, noCell, cellAt}
+use Rattle.mesh.specs.Rows.{faceWords, cellWords, rowsIn, rowAt, faceOf, faceAt, cellOf, cellAt}
 
 -- a part of one row's length is the row
 part-is : (w : ℕ) (rows : List ℕ) (i : ℕ) → take (i * w + w - i * w) (drop (i * w) rows) ≡ rowAt w rows i
@@ -58,18 +58,10 @@ module _ (n : ℕ) (rows : List ℕ) (f : ℕ) where
   unfolding faceAt
   face-there h = ap read (part-is (faceWords n) rows f) ∙ read-is h ∙ sym (rw (lt-ltb _ _ h, faceAt))
 
-  pub face-past : rowsIn (faceWords n) rows ≤ f → noFace n ≡ faceAt n rows f
-  unfolding faceAt
-  face-past h = rw (le-ltb _ _ h, faceAt)
-
 module _ (rows : List ℕ) (c : ℕ) where
   pub cell-there : c < rowsIn cellWords rows → cellOf (take (c * cellWords + cellWords - c * cellWords) (drop (c * cellWords) rows)) ≡ cellAt rows c
   unfolding cellAt
   cell-there h = ap cellOf (part-is cellWords rows c) ∙ sym (rw (lt-ltb _ _ h, cellAt))
-
-  pub cell-past : rowsIn cellWords rows ≤ c → noCell ≡ cellAt rows c
-  unfolding cellAt
-  cell-past h = rw (le-ltb _ _ h, cellAt)
 
 -- a face has all its node places
 pub faceAt-nodes : (n : ℕ) (rows : List ℕ) (f : ℕ) → length (faceAt n rows f .nodes) ≡ n

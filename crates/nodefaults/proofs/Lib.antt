@@ -2,3 +2,4 @@ mod Leaves
 mod OfNodes
 mod Marked
 pub mod Only
+mod Cases

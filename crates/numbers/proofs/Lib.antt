@@ -4,3 +4,4 @@ mod Bases
 pub mod AtOnce
 pub mod Only
 pub mod Bad
+mod Cases

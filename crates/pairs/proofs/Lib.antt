@@ -2,3 +2,4 @@ pub mod Windows
 mod Leading
 mod Going
 pub mod Only
+mod Cases

@@ -1,3 +1,4 @@
 mod Pointed
 pub mod Good
 pub mod Only
+mod Cases

@@ -4,3 +4,4 @@ pub mod Near
 pub mod Knowing
 pub mod Alone
 pub mod Only
+mod Cases

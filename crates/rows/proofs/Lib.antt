@@ -2,3 +2,4 @@ mod Wording
 mod Rowed
 pub mod Good
 pub mod Only
+mod Cases

@@ -3,3 +3,4 @@ pub mod Sections
 pub mod Ids
 pub mod Noting
 pub mod Alike
+mod Cases

@@ -2,3 +2,4 @@ mod Leaves
 pub mod OfSides
 mod Marked
 pub mod Only
+mod Cases

@@ -4,3 +4,4 @@ pub mod Single
 pub mod Pairing
 pub mod Chain
 pub mod Alike
+mod Cases

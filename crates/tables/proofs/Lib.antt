@@ -1,2 +1,3 @@
 mod Stored
 pub mod Only
+mod Cases

@@ -1,9 +1,14 @@
--- Closed texts with their tokens: one table, one claim. Assumes nothing.
+-- Closed texts with their tokens: one table, one claim. Behind it closed cases of the functions that only our own crates call: the right answer, and what a wrong program would have answered there. Assumes nothing.
 use Prim.Native.Nat.{ℕ}
 use mathlib.Core.Path.{_≡_, refl}
 use mathlib.Core.List.{List, [], _∷_, map}
+use mathlib.Core.Bool.{true, false, _||_, not}
+use lib.ListN.{getD}
+use lib.Dec.{eqb}
 use Rattle.facts.specs.Text.{bytes}
-use Rattle.tokens.specs.Tokens.{classOf, runEnd, runAt, textTo, tokenOf, tokenFrom, tokenAt}
+use Rattle.tokens.specs.declared.Run.{Run}
+use Rattle.tokens.specs.declared.Token.{Token}
+use Rattle.tokens.specs.Tokens.{isBlank, classOf, goesOn, runEnd, runAt, startOf, markOf, quoteOf, endsWord, stepOf, textTo, tokenOf, tokenFrom, tokenAt}
 use Rattle.tokens.specs.Listed.{Tok, left, right, text, cut, word, tokensIn, tokensFrom, tokensOf}
 
 pub record Case : Type 0 where
@@ -37,3 +42,32 @@ table =
 pub cases : map (λ c. tokensOf (c .given)) table ≡ map (λ c. c .tokens) table
 unfolding classOf runEnd runAt textTo tokenOf tokenFrom tokenAt tokensIn tokensFrom
 cases = refl
+
+-- `Cursor::new`: a start at the second byte
+new : (tokensFrom (bytes "()") 0 ≡ left 0 ∷ right 1 ∷ []) × (tokensFrom (bytes "()") 1 ≡ right 1 ∷ [])
+unfolding classOf runEnd runAt tokenOf tokenFrom tokenAt tokensIn tokensFrom
+new = (refl, refl)
+
+-- `Cursor::token`: a string that ends before its closing quote
+token : (tokenAt (bytes "\"a\" ") 0 ≡ stepOf Token.Text 0 3) × (stepOf Token.Text 0 (runAt Run.Text (bytes "\"a\" ") 1) ≡ stepOf Token.Text 0 2)
+unfolding classOf runEnd runAt textTo tokenOf tokenFrom tokenAt
+token = (refl, refl)
+
+-- `Cursor::start`: words passed over as blanks are
+start : (startOf (bytes " 2 3)") 0 ≡ 1) × (markOf (bytes " 2 3)") 0 ≡ 4)
+unfolding classOf runEnd runAt
+start = (refl, refl)
+
+-- `Cursor::ends_word`: a word that ends where a string does, at a quote only
+ends-word : (endsWord (bytes "2)") 1 ≡ true) × (not (goesOn Run.Text (classOf (getD (bytes "2)") 1 0))) ≡ false)
+unfolding classOf endsWord
+ends-word = (refl, refl)
+
+-- `Cursor::mark`: parentheses passed over, so that only a quote is found
+mark : (markOf (bytes "a (\"") 0 ≡ 2) × (quoteOf (bytes "a (\"") 0 ≡ 3)
+unfolding classOf runEnd runAt
+mark = (refl, refl)
+
+-- `is_blank`: byte 11 taken for the tab, which is byte 9
+is-blank : (isBlank 9 ≡ true) × ((eqb 9 32 || (eqb 9 11 || (eqb 9 10 || eqb 9 13))) ≡ false)
+is-blank = (refl, refl)

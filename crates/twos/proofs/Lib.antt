@@ -1,2 +1,3 @@
 mod Twice
 pub mod Only
+mod Cases

@@ -18,10 +18,10 @@ impl Pair {
         self.ratios[1]
     }
 
-    /// Millions a second of both, the ratio, its span over the runs, and a mark on a defect.
-    pub fn line(self, things: usize) -> String {
+    /// Millions a second of both, the ratio, its span over the runs, and, where rows are judged, a mark on a defect.
+    pub fn line(self, things: usize, judged: bool) -> String {
         let speed = |time: Duration| things as f64 / 1e6 / time.as_secs_f64();
-        let mark = if self.ratio() < LEAST { " DEFECT" } else { "" };
+        let mark = if judged && self.ratio() < LEAST { " DEFECT" } else { "" };
         let [low, ratio, high] = self.ratios;
         format!("{:12.1} {:11.1} {ratio:6.2}  {low:.2}-{high:.2}{mark}", speed(self.proved), speed(self.plain))
     }
