@@ -1,7 +1,8 @@
 -- Closed cases of the functions that only our own crates call: the right answer, and what a wrong program would have answered there. Assumes nothing.
 use Prim.Native.Nat.{ℕ}
-use mathlib.Core.Path.{_≡_, refl}
+use mathlib.Core.Path.{_≡_, refl, _∙_}
 use mathlib.Core.List.{List, [], _∷_}
+use denote.Ref.{now}
 use lib.ListN.{set}
 use lib.Seq.{sets}
 use Rattle.layout.specs.declared.Refusal.{Refusal}
@@ -10,14 +11,17 @@ use Rattle.layout.specs.Replies.{Shown, shown}
 use Rattle.audit.specs.declared.Audited.{Audited}
 use Rattle.audit.specs.Audit.{Values, valuesOf}
 use Rattle.answers.specs.Words.{readWords, auditWords}
+use Rattle.answers.proofs.answers.copy_words.Reads as copied
 
 -- two words are lent
 abbrev lent : List ℕ
 lent = 9 ∷ 9 ∷ []
 
 -- `copy_words`: every word stored at the first place
-copy-words : (sets lent 0 (1 ∷ 2 ∷ []) ≡ 1 ∷ 2 ∷ []) × (set (set lent 0 1) 0 2 ≡ 2 ∷ 9 ∷ [])
-copy-words = (refl, refl)
+copy-words :
+    ((κ : _) (a : _) (r : _) (x : _) → copied.Post κ a r x → now (a .0) ≡ 1 ∷ 2 ∷ [] → now (a .1 .0) ≡ lent → now (x .1 .0) ≡ 1 ∷ 2 ∷ [])
+    × (set (set lent 0 1) 0 2 ≡ 2 ∷ 9 ∷ [])
+copy-words = (λ κ a r x p words old. p ∙ rw (words, old), refl)
 
 abbrev refused : Shown
 refused = shown (Reply.Refused Refusal.Range 2 21)

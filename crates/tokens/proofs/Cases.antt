@@ -10,6 +10,7 @@ use Rattle.tokens.specs.declared.Run.{Run}
 use Rattle.tokens.specs.declared.Token.{Token}
 use Rattle.tokens.specs.Tokens.{isBlank, classOf, goesOn, runEnd, runAt, startOf, markOf, quoteOf, endsWord, stepOf, textTo, tokenOf, tokenFrom, tokenAt}
 use Rattle.tokens.specs.Listed.{Tok, left, right, text, cut, word, tokensIn, tokensFrom, tokensOf}
+use Rattle.tokens.proofs.Cursor.new.Reads as news
 
 pub record Case : Type 0 where
   pub given : List ℕ
@@ -44,9 +45,11 @@ unfolding classOf runEnd runAt textTo tokenOf tokenFrom tokenAt tokensIn tokensF
 cases = refl
 
 -- `Cursor::new`: a start at the second byte
-new : (tokensFrom (bytes "()") 0 ≡ left 0 ∷ right 1 ∷ []) × (tokensFrom (bytes "()") 1 ≡ right 1 ∷ [])
+new :
+    ((κ : _) (a : _) (r : _) (x : _) → news.Post κ a r x → tokensFrom (bytes "()") (r .at) ≡ left 0 ∷ right 1 ∷ [])
+    × (tokensFrom (bytes "()") 1 ≡ right 1 ∷ [])
 unfolding classOf runEnd runAt tokenOf tokenFrom tokenAt tokensIn tokensFrom
-new = (refl, refl)
+new = (λ κ a r x first. rw first refl, refl)
 
 -- `Cursor::token`: a string that ends before its closing quote
 token : (tokenAt (bytes "\"a\" ") 0 ≡ stepOf Token.Text 0 3) × (stepOf Token.Text 0 (runAt Run.Text (bytes "\"a\" ") 1) ≡ stepOf Token.Text 0 2)
