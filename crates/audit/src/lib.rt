@@ -1,4 +1,6 @@
 // The audit: every fault of lent tables counted and, as far as the list has room, written.
+#![tactic(auto)]
+
 mod cells;
 mod counts;
 mod faces;

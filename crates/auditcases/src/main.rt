@@ -1,6 +1,8 @@
 // Runs the audit on the cases of standard input, and prints each answer, the counts and the list.
 // A case is words in hexadecimal: dimension, N, F, C, how many face words, cell words, counts and list
 // bytes are lent, then the face words and the cell words. What is no such word is stepped over.
+#![tactic(auto)]
+
 mod input;
 mod shown;
 

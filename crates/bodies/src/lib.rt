@@ -1,4 +1,6 @@
 // Bodies judged and not kept.
+#![tactic(auto)]
+
 mod bodies;
 mod hexes;
 mod rows;

@@ -1,5 +1,7 @@
 // Words as coordinates: exact decimals. Each answer is a function of the bytes alone, and nothing is
 // copied aside.
+#![tactic(auto)]
+
 mod finish;
 mod leads;
 mod mild;

@@ -1,4 +1,6 @@
 // The next eight bytes as one number, and the digits at their start, all looked at at once.
+#![tactic(auto)]
+
 mod couple;
 mod group;
 mod lanes;

@@ -1,4 +1,6 @@
 // The dimension: the words that may give it, and what is known of it behind each.
+#![tactic(auto)]
+
 ghost use Rattle.std.specs.Prelude.{◌≡◌};
 ghost use Rattle.layout.specs.State.{dim_after, dim_listed};
 ghost use Rattle.spots.specs.Heads.{fifth_for};

@@ -1,4 +1,6 @@
 // What reading a file answers where no section opens: at its end, or at what stands in no file.
+#![tactic(auto)]
+
 ghost use Rattle.std.specs.Prelude.{◌≡◌, ◌&&◌};
 ghost use Rattle.layout.specs.Read.{end_of};
 ghost use Rattle.sofar.specs.States.{state_for};

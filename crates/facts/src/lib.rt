@@ -1,1 +1,3 @@
 // Definitions and laws that several crates share and the toolchain's library lacks. No function.
+#![tactic(auto)]
+

@@ -1,4 +1,6 @@
 // What a fault is, and the faults of one cell, found on values. Nothing is written here.
+#![tactic(auto)]
+
 mod bits;
 mod cells;
 

@@ -1,4 +1,6 @@
 // The second pass: the tables that are lent, filled from a file that is judged first.
+#![tactic(auto)]
+
 mod core;
 mod fill;
 mod parts;

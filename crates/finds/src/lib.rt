@@ -1,4 +1,6 @@
 // The first parenthesis or quote, and the end of a string, looked for in eight bytes at once.
+#![tactic(auto)]
+
 mod marks;
 mod quotes;
 

@@ -1,4 +1,6 @@
 // Headers, word by word. What stands there instead is refused.
+#![tactic(auto)]
+
 mod head;
 
 pub use head::{Header, head_at};

@@ -1,4 +1,6 @@
 // The id of a section: mostly one or two digits, right where it is looked for. Whatever else stands there is left to the step that takes the token apart.
+#![tactic(auto)]
+
 ghost use Rattle.std.specs.Prelude.{◌≡◌, length};
 ghost use Rattle.tokens.specs.Listed.{tokens_from};
 ghost use Rattle.layout.specs.Reading.{number_by};

@@ -1,4 +1,6 @@
 // The regular sections met so far: id, first and last of each, in three slices side by side.
+#![tactic(auto)]
+
 ghost use Rattle.std.specs.Prelude.{◌≡◌, ◌&&◌, ◌||◌, get_or};
 ghost use Rattle.layout.specs.State.{every, clear, tiled};
 ghost use Rattle.kept.specs.Kept.{entry_at, entry_clear, entry_covers, entry_last, kept_of, reach_of};

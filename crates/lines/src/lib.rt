@@ -1,4 +1,6 @@
 // Lines of text with decimal numbers, and a line for each record of a list.
+#![tactic(auto)]
+
 mod lines;
 mod listed;
 mod put;

@@ -1,4 +1,6 @@
 // The faults of a face as one number: a bit a position, four bits a kind, those of its nodes and above them those of its sides.
+#![tactic(auto)]
+
 ghost use Rattle.std.specs.Prelude.{◌≡◌};
 ghost use Rattle.mesh.specs.Rows.{places};
 ghost use Rattle.faults.specs.Marked.{marks_of};

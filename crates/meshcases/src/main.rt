@@ -1,4 +1,6 @@
 // Prints the name of each file that its arguments name and the report on the mesh in it.
+#![tactic(auto)]
+
 use libc::STDOUT_FILENO;
 
 fn put(text: &[u8]) {

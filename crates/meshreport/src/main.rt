@@ -1,4 +1,6 @@
 // The report program: reads a mesh from standard input and prints what reading and auditing it answer.
+#![tactic(auto)]
+
 use libc::{STDERR_FILENO, STDIN_FILENO, STDOUT_FILENO};
 
 // Whether the input goes on behind the buffer.

@@ -1,4 +1,6 @@
 // The paper's number of a refusal. A crate of its own: a match of fourteen arms is dear to prove.
+#![tactic(auto)]
+
 ghost use Rattle.std.specs.Prelude.{◌≡◌};
 ghost use Rattle.layout.specs.Replies.{number_of};
 

@@ -1,5 +1,7 @@
 // Words as whole numbers to a base, and where a word that is no number goes wrong. Each answer is a
 // function of the word's bytes alone, and nothing is copied aside.
+#![tactic(auto)]
+
 mod digit;
 mod sort;
 mod whole;

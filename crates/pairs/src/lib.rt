@@ -1,4 +1,6 @@
 // The usual coordinates in one look at their bytes. Nothing is refused: whatever else stands there is left to the step that takes the token apart.
+#![tactic(auto)]
+
 mod leads;
 mod went;
 mod window;

@@ -1,4 +1,6 @@
 // Bytes and numbers laid one behind the other. A byte past the end is counted and not kept, so that the same functions measure a text and write it. Those that write rows (`lay_`) say nothing of a text that has no room for all of it.
+#![tactic(auto)]
+
 mod number;
 mod put;
 mod signed;

@@ -1,4 +1,6 @@
 // Ranges of indices, and room for their rows and records.
+#![tactic(auto)]
+
 ghost use Rattle.std.specs.Prelude.{◌≡◌};
 ghost use Rattle.layout.specs.State.{fits_in, decl_range, part_range, zone_fits};
 ghost use Rattle.ranges.specs.Ranges.{limit_for};

@@ -7,6 +7,8 @@
 // Printed are the case's line; number, section, offset, dimension, nodes, faces, cells, zones; then a line for each row
 // of mantissas (m), exponents (e), faces (f), cells (c) and for each zone record (z). Before a case all of them are 7,
 // exponents -7, so that a row that stayed is seen. A row is short where a slice ends within it.
+#![tactic(auto)]
+
 mod cases;
 mod rooms;
 mod shown;

@@ -1,4 +1,6 @@
 // Reading a file into lent tables and a lent list of zone records.
+#![tactic(auto)]
+
 mod lent;
 mod zones;
 

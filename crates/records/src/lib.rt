@@ -1,4 +1,6 @@
 // Fault records as bytes, laid one behind the other in a lent list.
+#![tactic(auto)]
+
 ghost use Rattle.std.specs.Prelude.{◌≡◌, ◌++◌, ◌+◌, ◌-◌, ◌≤◌, length, drop};
 ghost use Rattle.facts.specs.Bytes.{big_endian};
 ghost use Rattle.records.specs.Record.{narrow, has_place, extra_bytes, size_of, record_of};

@@ -1,4 +1,6 @@
 // Rows of faces and cells, stored as their words are read. Nothing is refused: the file is known to be good, and whatever stands there is stored.
+#![tactic(auto)]
+
 mod body;
 mod row;
 mod words;

@@ -1,4 +1,6 @@
 // One section judged, its rows left out.
+#![tactic(auto)]
+
 mod section;
 
 pub use section::{Sect, section_at};

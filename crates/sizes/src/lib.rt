@@ -1,4 +1,6 @@
 // The limits of document 01, "Sizes". No other crate states one.
+#![tactic(auto)]
+
 ghost use Rattle.std.specs.Prelude.{◌≡◌};
 ghost use Rattle.sizes.specs.Sizes.{in_force};
 

@@ -1,4 +1,6 @@
 // What the sections so far leave behind, and what is asked of a section by its kind.
+#![tactic(auto)]
+
 ghost use Rattle.std.specs.Prelude.{◌≡◌};
 ghost use Rattle.sofar.specs.Sofar.{seen_of, id_for, room_of, count_for};
 

@@ -1,4 +1,6 @@
 // What the readers of a section hand on to each other: words, headers and refusals, each with the place where it stands. No function.
+#![tactic(auto)]
+
 use layout::Refusal;
 
 // Why and where a file is refused.

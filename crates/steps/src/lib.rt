@@ -1,4 +1,6 @@
 // One thing expected at a place of a file: the layout's steps. Each answers a refusal where the token there is another one.
+#![tactic(auto)]
+
 mod pair;
 mod step;
 

@@ -1,4 +1,6 @@
 // One number of a table. Past the end nothing is stored.
+#![tactic(auto)]
+
 ghost use Rattle.std.specs.Prelude.{◌≡◌, set};
 
 pub fn store(words: &mut [u32], i: usize, v: u32)

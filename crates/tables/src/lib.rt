@@ -1,4 +1,6 @@
 // What is lent, counted in rows and words: room, the place of a section's rows, the place of its record.
+#![tactic(auto)]
+
 mod places;
 mod room;
 

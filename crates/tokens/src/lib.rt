@@ -1,4 +1,6 @@
 // Tokens of a text mesh: a cursor by value, and what stands at it.
+#![tactic(auto)]
+
 ghost use Rattle.std.specs.Prelude.{◌≡◌};
 ghost use Rattle.tokens.specs.Tokens.{is_blank, class_of, goes_on, run_at, start_of, mark_of, ends_word, step_of, text_to, token_of, token_at};
 

@@ -1,4 +1,6 @@
 // Two number words of a file that is known to be good, in one look at eight bytes: where words are short, both stand there.
+#![tactic(auto)]
+
 ghost use Rattle.std.specs.Prelude.{◌≡◌};
 ghost use Rattle.twos.specs.Twos.{two_by, Inside, TwoAt};
 

@@ -1,5 +1,7 @@
 // Prints the tokens of each file that its arguments name, or of standard input where there is none,
 // a line for each, and behind a word what it is as a number of each sort.
+#![tactic(auto)]
+
 ghost use Rattle.std.specs.Prelude.{length};
 ghost use Rattle.wordlist.specs.Turn.{Ahead};
 

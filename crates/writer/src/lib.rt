@@ -1,4 +1,6 @@
 // A mesh written from its tables: judged, measured, then written.
+#![tactic(auto)]
+
 mod answer;
 mod cell_rows;
 mod cells;
