@@ -1,0 +1,20 @@
+-- `records::put` meets its contract: it fits, it does not, or one before did not. Assumes nothing.
+use native.Mathlib.Omega.{arith}
+use borrow.Author.Rules.{rules}
+use Rattle.records.specs.Record.{narrow}
+use Rattle.records.proofs.Record.{extra_bytes_most}
+use Rattle.records.proofs.Parts.{put_fits}
+use Rattle.records.proofs.Laid.{step_full, step_shut}
+use Rattle.records.proofs.put.Goals as goal
+
+pub overflow_add-size : goal.overflow_add-size
+overflow_add-size c = omega (arith, c.extra_bytes-size.ensures, extra_bytes_most narrow c.args.f.kind)
+
+pub returns-then-size-room : goal.returns-then-size-room
+returns-then-size-room c = put_fits _ _ _ _ _ c.if-live.true c.extra_bytes-size.ensures (search rules) c.lay_record.ensures
+
+pub returns-else-size-room : goal.returns-else-size-room
+returns-else-size-room c = step_full narrow _ _ _ c.if-live.true (search rules)
+
+pub returns-else-live : goal.returns-else-live
+returns-else-live c = step_shut narrow _ _ _ c.if-live.false
