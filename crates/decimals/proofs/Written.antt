@@ -11,8 +11,8 @@ use lib.ListN.{length}
 use lib.IntN.{ℤ}
 use Rattle.facts.proofs.Branch.{either}
 use Rattle.decimals.specs.declared.decimal.Power.{Power}
-use Rattle.digits.specs.Digits.{digit_of, Digits, Figures, worth}
-use Rattle.decimals.specs.Coordinate.{Signed, sign_in, fraction_in, power_of, Parts, is, parts_of, reading_by, front_of, back_of, reading_of}
+use Rattle.digits.specs.Digits.{digit_of, Digits, digits, digits_in, Figures, worth}
+use Rattle.decimals.specs.Coordinate.{Signed, signed, sign_in, fraction_in, power_of, Reading, Parts, is, parts_of, reading_by, front_of, back_of, reading_of}
 use Rattle.decimals.specs.Value.{SignText, PointText, plain, pointed, PowerText, Written}
 use Rattle.digits.proofs.Digits.{NoDigit, digits_in_exact, digits_in_part, worth_append, figures_append, figures_left, figures_right}
 use Rattle.decimals.proofs.Pieces.{
@@ -33,33 +33,50 @@ use Rattle.decimals.proofs.Pieces.{
   fraction_in_part,
 }
 
+-- the parts of a reading, one behind the other
+abbrev by_back : Bool → ℕ → Digits → Reading
+by_back n c b = reading_by n c b (power_of b.rest)
+
+abbrev by_front : Bool → Digits → Reading
+by_front n d = by_back n d.count (fraction_in d.value d.rest)
+
+abbrev by_sign : Signed → Reading
+by_sign x = by_front x.negative (digits_in 10 0 0 x.rest)
+
+some_digit : (n : Bool) (k : ℤ) (c : ℕ) (b : Digits) → (c + b.count ≡ 0 → ⊥) → reading_by n c b (Power.Is k) ≡ is (parts_of n b.value b.count k)
+some_digit n k c b h = rw (ne_eqb (c + b.count) 0 h, reading_by)
+
+read_steps : (w u : List ℕ) (n : Bool) (k : ℤ) (before behind : Digits)
+    → sign_in w ≡ signed n u → digits_in 10 0 0 u ≡ before → fraction_in before.value before.rest ≡ behind → power_of behind.rest ≡ Power.Is k
+    → (before.count + behind.count ≡ 0 → ⊥) → reading_of w ≡ is (parts_of n behind.value behind.count k)
+unfolding reading_of
+read_steps w u n k before behind a b c d e =
+    ap by_sign a ∙ ap (by_front n) b ∙ ap (by_back n before.count) c ∙ ap (reading_by n before.count behind) d ∙ some_digit n k before.count behind e
+
 module _ {s t : List ℕ} {n : Bool} {k : ℤ} (g : SignText s n) (h : PowerText t k) (a : List ℕ) where
   unpointed : Figures 10 a → 1 ≤ length a → reading_of (s ++ (a ++ t)) ≡ is (parts_of n (worth 10 0 a) 0 k)
-  unfolding reading_of digit_of
+  unfolding digit_of
   unpointed f l =
-      rw (
-        sign_in_exact (a ++ t) g (digits_unsigned a t f (power_begins NoSign (refl, refl) (refl, refl) h)),
-        digits_in_exact 10 a t 0 0 f (power_begins (NoDigit 10) refl refl h),
-        fraction_in_none (worth 10 0 a) t (power_begins NoPoint refl refl h),
-        power_of_exact h,
-        ne_eqb (0 + length a + 0) 0 (λ e. omega arith),
-        reading_by,
-      )
+      read_steps (s ++ (a ++ t)) (a ++ t) n k (digits (worth 10 0 a) (0 + length a) t) (digits (worth 10 0 a) 0 t)
+      (sign_in_exact (a ++ t) g (digits_unsigned a t f (power_begins NoSign (refl, refl) (refl, refl) h)))
+      (digits_in_exact 10 a t 0 0 f (power_begins (NoDigit 10) refl refl h))
+      (fraction_in_none (worth 10 0 a) t (power_begins NoPoint refl refl h))
+      (power_of_exact h)
+      (λ e. omega arith)
 
   with_point : (b : List ℕ) → Figures 10 a → Figures 10 b → 1 ≤ length a + length b
       → reading_of (s ++ (a ++ (46 ∷ (b ++ t)))) ≡ is (parts_of n (worth 10 (worth 10 0 a) b) (length b) k)
-  unfolding reading_of digit_of fraction_in
+  unfolding digit_of fraction_in
   with_point b f f' l =
       let z : 0 + length b ≡ length b = omega arith in
-      rw (
-        sign_in_exact (a ++ (46 ∷ (b ++ t))) g (digits_unsigned a (46 ∷ (b ++ t)) f (refl, refl)),
-        digits_in_exact 10 a (46 ∷ (b ++ t)) 0 0 f refl,
-        digits_in_exact 10 b t (worth 10 0 a) 0 f' (power_begins (NoDigit 10) refl refl h),
-        power_of_exact h,
-        ne_eqb (0 + length a + (0 + length b)) 0 (λ e. omega arith),
-        reading_by,
-        z,
-      )
+      read_steps (s ++ (a ++ (46 ∷ (b ++ t)))) (a ++ (46 ∷ (b ++ t))) n k
+      (digits (worth 10 0 a) (0 + length a) (46 ∷ (b ++ t))) (digits (worth 10 (worth 10 0 a) b) (0 + length b) t)
+      (sign_in_exact (a ++ (46 ∷ (b ++ t))) g (digits_unsigned a (46 ∷ (b ++ t)) f (refl, refl)))
+      (digits_in_exact 10 a (46 ∷ (b ++ t)) 0 0 f refl)
+      (digits_in_exact 10 b t (worth 10 0 a) 0 f' (power_begins (NoDigit 10) refl refl h))
+      (power_of_exact h)
+      (λ e. omega arith)
+      ∙ ap (λ (m : ℕ). is (parts_of n (worth 10 (worth 10 0 a) b) m k)) z
 
 written_read : (w : List ℕ) (p : Parts) → Written w p → reading_of w ≡ is p
 written_read w p h = ap reading_of h.whole ∙ by_points h.points h.digits h.some ∙ ap is (sym h.says)
