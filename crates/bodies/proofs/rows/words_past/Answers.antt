@@ -1,0 +1,22 @@
+use lib.ListN.{length}
+use Rattle.bodies.specs.Bodies.{word_unit}
+use Rattle.bodies.proofs.Forgotten.{going_start, going_end, going_stop, going_more}
+use Rattle.bodies.proofs.rows.words_past.Goals as goal
+
+pub loop-left-init : goal.loop-left-init
+loop-left-init c = going_start _ _ _ _
+
+pub returns-in-No : goal.returns-in-No
+returns-in-No c =
+    let a = c.args in
+    going_stop a.s.now (word_unit (length a.s.now) a.word) a.at a.n _ _ c.loop-left.invariant c.loop-left-test.true _ c.word_past.ensures _ c.in-No.is
+
+pub loop-left-preserved : goal.loop-left-preserved
+loop-left-preserved c =
+    let a = c.args in
+    going_more a.s.now (word_unit (length a.s.now) a.word) a.at a.n _ _ c.loop-left.invariant c.loop-left-test.true _ c.word_past.ensures _ c.in-To.is
+
+pub returns : goal.returns
+returns c =
+    let a = c.args in
+    going_end a.s.now (word_unit (length a.s.now) a.word) a.at a.n _ _ c.loop-left.invariant c.loop-left-test.false
