@@ -23,7 +23,7 @@ fn put_point(
     k: usize,
 ) -> usize
     requires { (d ≤ node_words) × (k ≤ 2 ^ 62) }
-    ensures { Puts s.now (point_taken (length s.now) d (tokens_from s.now at)) k (record { mantissas = mantissas.entry.now; exponents = exponents.old }) (record { mantissas = mantissas.exit.now; exponents = exponents.new }) result }
+    ensures { Puts s.now (point_taken (length s.now) d (tokens_from s.now at)) k (record { mantissas = mantissas.old; exponents = exponents.old }) (record { mantissas = mantissas.new; exponents = exponents.new }) result }
 {
     let c = put_pairs(s, at, d, mantissas, exponents, k);
     let used = d as usize;
@@ -43,7 +43,7 @@ fn put_all(
     k: usize,
 )
     requires { (d ≤ node_words) × (k ≤ 2 ^ 61) }
-    ensures { ◌≡◌ {A = Both} (record { mantissas = mantissas.exit.now; exponents = exponents.new }) (set_pairs (record { mantissas = mantissas.entry.now; exponents = exponents.old }) k (points_taken (length s.now) d n (tokens_from s.now at))) }
+    ensures { ◌≡◌ {A = Both} (record { mantissas = mantissas.new; exponents = exponents.new }) (set_pairs (record { mantissas = mantissas.old; exponents = exponents.old }) k (points_taken (length s.now) d n (tokens_from s.now at))) }
 {
     let mut c = at;
     let mut rest = n;
@@ -74,7 +74,7 @@ pub fn put_points(
     exponents: &mut [i32],
     k: usize,
 )
-    ensures { ◌≡◌ {A = Both} (record { mantissas = mantissas.exit.now; exponents = exponents.new }) (set_pairs (record { mantissas = mantissas.entry.now; exponents = exponents.old }) k (points_taken (length s.now) (coordinates_in dim) n (tokens_from s.now at))) }
+    ensures { ◌≡◌ {A = Both} (record { mantissas = mantissas.new; exponents = exponents.new }) (set_pairs (record { mantissas = mantissas.old; exponents = exponents.old }) k (points_taken (length s.now) (coordinates_in dim) n (tokens_from s.now at))) }
 {
     let d = coordinates_in(dim);
     let room = longer(mantissas.len(), exponents.len());

@@ -38,7 +38,7 @@ fn coordinate_at(s: &[u8], at: usize) -> Coordinate
 }
 
 fn put_pair(s: &[u8], at: usize, mantissas: &mut [i64], exponents: &mut [i32], k: usize) -> usize
-    ensures { Puts s.now (pairs_taken (length s.now) 1 (tokens_from s.now at)) k (record { mantissas = mantissas.entry.now; exponents = exponents.old }) (record { mantissas = mantissas.exit.now; exponents = exponents.new }) result }
+    ensures { Puts s.now (pairs_taken (length s.now) 1 (tokens_from s.now at)) k (record { mantissas = mantissas.old; exponents = exponents.old }) (record { mantissas = mantissas.new; exponents = exponents.new }) result }
 {
     let c = coordinate_at(s, at);
     store_mantissa(mantissas, k, c.mantissa);
@@ -56,7 +56,7 @@ pub(crate) fn put_pairs(
     k: usize,
 ) -> usize
     requires { k ≤ 2 ^ 63 }
-    ensures { Puts s.now (pairs_taken (length s.now) n (tokens_from s.now at)) k (record { mantissas = mantissas.entry.now; exponents = exponents.old }) (record { mantissas = mantissas.exit.now; exponents = exponents.new }) result }
+    ensures { Puts s.now (pairs_taken (length s.now) n (tokens_from s.now at)) k (record { mantissas = mantissas.old; exponents = exponents.old }) (record { mantissas = mantissas.new; exponents = exponents.new }) result }
 {
     let mut c = at;
     let mut left = n;
@@ -72,7 +72,7 @@ pub(crate) fn put_pairs(
 // n pairs of 0, 0 from place k on.
 pub(crate) fn put_origins(n: u32, mantissas: &mut [i64], exponents: &mut [i32], k: usize)
     requires { k ≤ 2 ^ 63 }
-    ensures { ◌≡◌ {A = Both} (record { mantissas = mantissas.exit.now; exponents = exponents.new }) (set_pairs (record { mantissas = mantissas.entry.now; exponents = exponents.old }) k (replicate n origin)) }
+    ensures { ◌≡◌ {A = Both} (record { mantissas = mantissas.new; exponents = exponents.new }) (set_pairs (record { mantissas = mantissas.old; exponents = exponents.old }) k (replicate n origin)) }
 {
     let mut left = n;
     let mut i = k;
