@@ -1,5 +1,5 @@
 -- How many zone records reading finds: no more than a file may have sections, and no more than there is room for. And no two answers of reading are told alike. Assumes nothing.
-use Rattle.core.specs.Prelude.{◌≡◌, ℕ, ◌≤◌, List}
+use Rattle.std.specs.Prelude.{◌≡◌, ℕ, ◌≤◌, List}
 use Prim.Native.Nat.{zero-le}
 use native.Mathlib.Omega.{arith}
 use mathlib.Core.Path.{refl, ap, subst}

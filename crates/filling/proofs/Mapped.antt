@@ -1,5 +1,5 @@
 -- Rows read as things and rows read as words are the same rows. Assumes nothing.
-use Rattle.core.specs.Prelude.{◌≡◌, ℕ, zero, suc, List, ◌∷◌, map}
+use Rattle.std.specs.Prelude.{◌≡◌, ℕ, zero, suc, List, ◌∷◌, map}
 use mathlib.Core.Path.{refl, ◌∙◌, ap, subst}
 use Rattle.tokens.specs.Listed.{Tok}
 use Rattle.layout.specs.Reading.{Got, got, bad, Reader, next, pure, rows_of, enclosed_of, left_of, right_of}

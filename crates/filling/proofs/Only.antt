@@ -3,7 +3,7 @@ use mathlib.Core.Path.{sym, ap, ◌∙◌}
 use Rattle.facts.specs.OnlyLeft.{OnlyLeft}
 use Rattle.filling.specs.Found.{Tables, Core}
 use Rattle.filling.proofs.Few.{told_only}
-use Rattle.filling.proofs.core.read_flat.Reads as flat_reads
+use Rattle.filling.proofs.flat.read_flat.Reads as flat_reads
 
 pub read_flat_only : OnlyLeft {L = Tables}
     (λ κ x. record { mantissas = x.1.0.now; exponents = x.1.1.0.now; faces = x.1.1.1.0.now; cells = x.1.1.1.1.0.now }) flat_reads.Post

@@ -1,5 +1,5 @@
 -- A regular section by its id: it is of one kind, and the tables of the others stay. Assumes nothing.
-use Rattle.core.specs.Prelude.{◌≡◌, ℕ, false, List, length}
+use Rattle.std.specs.Prelude.{◌≡◌, ℕ, false, List, length}
 use native.Mathlib.Omega.{arith}
 use mathlib.Core.Path.{refl, sym, ◌∙◌, subst}
 use Rattle.tokens.specs.Listed.{Tok, tokens_from}

@@ -1,5 +1,5 @@
 -- One thing at a place: what the steps of the layout say of it on a good file. Assumes nothing.
-use Rattle.core.specs.Prelude.{◌≡◌, ℕ, List}
+use Rattle.std.specs.Prelude.{◌≡◌, ℕ, List}
 use mathlib.Core.Path.{refl, sym, ◌∙◌, ap}
 use Rattle.layout.specs.Reading as R
 use Rattle.layout.specs.Reading.{Got}

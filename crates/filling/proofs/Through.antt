@@ -1,5 +1,5 @@
 -- Reading by way of the zone records as numbers: the answer and the tables of the covered call, and its records at the start of the list. Assumes nothing.
-use Rattle.core.specs.Prelude.{ℕ, List, length}
+use Rattle.std.specs.Prelude.{ℕ, List, length}
 use Rattle.mesh.specs.declared.Zone.{Zone}
 use Rattle.layout.specs.Read.{Result}
 use Rattle.layout.specs.Rows.{Lent}

@@ -1,5 +1,5 @@
 -- Headers as zone records, and a record's six words. Assumes nothing.
-use Rattle.core.specs.Prelude.{◌≡◌, ℕ, List}
+use Rattle.std.specs.Prelude.{◌≡◌, ℕ, List}
 use mathlib.Core.Path.{refl, sym, ◌∙◌, ap, subst}
 use Rattle.layout.specs.Items as Items
 use Rattle.layout.specs.Rows.{element_in, zone_of}

@@ -1,5 +1,5 @@
 -- Reading with the zone records as numbers: what the covered call answers and leaves in the tables. Assumes nothing.
-use Rattle.core.specs.Prelude.{ℕ, ◌/◌, min, List, [], ◌∷◌, ◌++◌, length, replicate, ℤ}
+use Rattle.std.specs.Prelude.{ℕ, ◌/◌, min, List, [], ◌∷◌, ◌++◌, length, replicate, ℤ}
 use Rattle.std.proofs.lemmas.List.Edits.{sets}
 use Rattle.mesh.specs.declared.Zone.{Zone}
 use Rattle.mesh.specs.Rows.{places, face_words, cell_words, node_words}
@@ -9,7 +9,7 @@ use Rattle.layout.specs.Keeps.{most, Room}
 use Rattle.layout.specs.Rows.{pieces_of, mantissa_table, exponent_table, face_table, cell_table, zones_of}
 use Rattle.layout.specs.Read.{Answer, accepted, refused, answer_of, lay}
 use Rattle.tables.specs.Places.{words_of}
-use Rattle.filling.specs.declared.core.Found.{Found}
+use Rattle.filling.specs.declared.flat.Found.{Found}
 
 -- the words of all records, one behind the other
 abbrev pub flat_of : List Zone → List ℕ

@@ -1,5 +1,5 @@
 -- Zone records out of a flat table, six words a record. Assumes nothing.
-use Rattle.core.specs.Prelude.{ℕ, zero, suc, ◌+◌, ◌*◌, List, slice_index, slice_set}
+use Rattle.std.specs.Prelude.{ℕ, zero, suc, ◌+◌, ◌*◌, List, slice_index, slice_set}
 use Rattle.mesh.specs.declared.Zone.{Zone}
 
 abbrev pub zone_at : List ℕ → ℕ → Zone

@@ -1,5 +1,5 @@
 // The second pass: the regular sections of a file that is known to be good, each at its place, into the tables. It refuses nothing.
-ghost use Rattle.core.specs.Prelude.{◌≡◌, ◌≤◌};
+ghost use Rattle.std.specs.Prelude.{◌≡◌, ◌≤◌};
 ghost use Rattle.mesh.specs.Rows.{node_words};
 ghost use Rattle.sizes.specs.Sizes.{zones};
 ghost use Rattle.filling.specs.Passing.{Fills};
@@ -25,7 +25,7 @@ pub(crate) fn fill_tables(
     list: &mut [u32],
 )
     requires { (n ≤ zones) × (d ≤ node_words) }
-    ensures { Fills s.now places.now n d (record { mantissas = mantissas.entry.now; exponents = exponents.old; faces = faces.old; cells = cells.old; list = list.old }) (record { mantissas = mantissas.exit.now; exponents = exponents.new; faces = faces.new; cells = cells.new; list = list.new }) }
+    ensures { Fills s.now places.now n d (record { mantissas = mantissas.old; exponents = exponents.old; faces = faces.old; cells = cells.old; list = list.old }) (record { mantissas = mantissas.new; exponents = exponents.new; faces = faces.new; cells = cells.new; list = list.new }) }
 {
     let mut z: usize = 0;
     while z < n {

@@ -1,5 +1,5 @@
 // The whole reader, with the zone records as numbers: the file is judged, and only then are its rows written.
-ghost use Rattle.core.specs.Prelude.{◌≡◌};
+ghost use Rattle.std.specs.Prelude.{◌≡◌};
 ghost use Rattle.layout.specs.Replies.{shown};
 ghost use Rattle.filling.specs.Found.{Tables, Told, told, core_of};
 
@@ -25,7 +25,7 @@ pub fn read_flat(
     cells: &mut [u32],
     room: usize,
 ) -> Found
-    ensures { ◌≡◌ {A = Told} (record { shown = shown result.reply; zones = result.zones; flat = result.flat; held = record { mantissas = mantissas.exit.now; exponents = exponents.new; faces = faces.new; cells = cells.new } }) (told (core_of s.now room (record { mantissas = mantissas.entry.now; exponents = exponents.old; faces = faces.old; cells = cells.old }))) }
+    ensures { ◌≡◌ {A = Told} (record { shown = shown result.reply; zones = result.zones; flat = result.flat; held = record { mantissas = mantissas.new; exponents = exponents.new; faces = faces.new; cells = cells.new } }) (told (core_of s.now room (record { mantissas = mantissas.old; exponents = exponents.old; faces = faces.old; cells = cells.old }))) }
 {
     let limits = room_for(
         mantissas.len(),

@@ -1,10 +1,10 @@
 // The second pass: the tables that are lent, filled from a file that is judged first.
 #![tactic(auto)]
 
-mod core;
+mod flat;
 mod fill;
 mod parts;
 mod tops;
 mod words;
 
-pub use core::{Found, read_flat};
+pub use flat::{Found, read_flat};

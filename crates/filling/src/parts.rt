@@ -1,5 +1,5 @@
 // One regular section of a file that is known to be good: its rows go to their table, its record to the list.
-ghost use Rattle.core.specs.Prelude.{◌≡◌, ◌≤◌, ◌||◌, ◌==◌, nat_lt};
+ghost use Rattle.std.specs.Prelude.{◌≡◌, ◌≤◌, ◌||◌, ◌==◌, nat_lt};
 ghost use Rattle.mesh.specs.Rows.{node_words, places};
 ghost use Rattle.sizes.specs.Sizes.{zones};
 ghost use Rattle.layout.specs.Items.{node, cell, face};

@@ -1,5 +1,5 @@
 // The header of a section in a file that is known to be good, as its zone record.
-ghost use Rattle.core.specs.Prelude.{◌≡◌, length};
+ghost use Rattle.std.specs.Prelude.{◌≡◌, length};
 ghost use Rattle.tokens.specs.Listed.{tokens_from};
 ghost use Rattle.layout.specs.Items.{cell};
 ghost use Rattle.layout.specs.Rows.{element_in, zone_of};

@@ -1,5 +1,5 @@
 // One thing at a place of a file that is known to be good. Nothing is refused: where another thing stands, the place stays.
-ghost use Rattle.core.specs.Prelude.{◌≡◌, length};
+ghost use Rattle.std.specs.Prelude.{◌≡◌, length};
 ghost use Rattle.tokens.specs.Listed.{tokens_from};
 ghost use Rattle.steps.specs.Views.{whole_for};
 ghost use Rattle.layout.specs.Reading.{left_of, number_by};
