@@ -23,7 +23,7 @@ pub extern "C" fn ravneket_read(
     zones: &mut [u32],
     answer: &mut [u64],
 ) -> u32
-    ensures { ◌≡◌ {A = Left} (record { number = result; answer = answer.new; held = record { mantissas = mantissas.exit.now; exponents = exponents.new; faces = faces.new; cells = cells.new }; zones = zones.new }) (read_left text.now (record { mantissas = mantissas.entry.now; exponents = exponents.old; faces = faces.old; cells = cells.old }) zones.old answer.old) }
+    ensures { ◌≡◌ {A = Left} (record { number = result; answer = answer.new; held = record { mantissas = mantissas.new; exponents = exponents.new; faces = faces.new; cells = cells.new }; zones = zones.new }) (read_left text.now (record { mantissas = mantissas.old; exponents = exponents.old; faces = faces.old; cells = cells.old }) zones.old answer.old) }
 {
     let room = zones.len() / ZONE_WORDS;
     let found = filling::read_flat(text, mantissas, exponents, faces, cells, room);

@@ -17,7 +17,7 @@ pub fn read(
     cells: &mut [u32],
     zones: &mut [Zone],
 ) -> Reply
-    ensures { ◌≡◌ {A = Outcome} (record { shown = shown result; held = record { mantissas = mantissas.exit.now; exponents = exponents.new; faces = faces.new; cells = cells.new; zones = zones.new } }) (outcome (read_of text.now (record { mantissas = mantissas.entry.now; exponents = exponents.old; faces = faces.old; cells = cells.old; zones = zones.old }))) }
+    ensures { ◌≡◌ {A = Outcome} (record { shown = shown result; held = record { mantissas = mantissas.new; exponents = exponents.new; faces = faces.new; cells = cells.new; zones = zones.new } }) (outcome (read_of text.now (record { mantissas = mantissas.old; exponents = exponents.old; faces = faces.old; cells = cells.old; zones = zones.old }))) }
 {
     let room = zones.len();
     let c = read_flat(text, mantissas, exponents, faces, cells, room);

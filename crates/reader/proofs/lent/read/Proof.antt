@@ -47,15 +47,15 @@ use Rattle.layout.specs.Rows.{Lent}
 use Rattle.layout.specs.Read.{Result, outcome, read_of}
 use Rattle.layout.specs.contracts.Reply as R
 use Rattle.layout.proofs.Reply.TheLaws as R'
-use Rattle.filling.specs.declared.core.Found.{Found}
+use Rattle.filling.specs.declared.flat.Found.{Found}
 use Rattle.filling.specs.Found.{Core, core_of, Told, told}
 use Rattle.filling.specs.Zones.{filled}
 use Rattle.filling.proofs.Through.{tables_in, with_zones}
 use Rattle.layout.specs.Replies.{shown}
 use Rattle.filling.proofs.Few.{core_few, core_room, told_only}
 use Rattle.filling.proofs.Zoned.{through_is}
-use Rattle.filling.specs.contracts.core.Found as F
-use Rattle.filling.proofs.core.Found.TheLaws as F'
+use Rattle.filling.specs.contracts.flat.Found as F
+use Rattle.filling.proofs.flat.Found.TheLaws as F'
 use Rattle.filling.specs.contracts.read_flat as core
 use Rattle.filling.proofs.read_flat.Symbol as core-def
 use Rattle.filling.proofs.read_flat.Symbol.{name as #core}

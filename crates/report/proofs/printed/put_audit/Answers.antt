@@ -1,0 +1,28 @@
+use Rattle.report.proofs.Printing.{part_fits}
+use mathlib.Core.Path.{refl}
+use Rattle.audit.specs.Audit.{tables}
+use Rattle.mesh.specs.Rows.{places}
+use Rattle.report.proofs.Printing.{bytes_listed, part_long, clean_refused, clean_done, faulty_done}
+use Rattle.report.proofs.printed.put_audit.Goals as goal
+
+-- src/printed.rt:100:39
+pub slice_bounds-list-end : goal.slice_bounds-list-end
+slice_bounds-list-end c =
+    let a = c.args in part_fits _ c.audit-a.new.1.1.1.1.1.1.1.0 (bytes_listed _ _ _ _ c.audit-a.ensures places (tables a.dim a.nodes a.faces a.cells a.face_rows_lem.now a.cell_rows_lem.now) _ refl _ _ c.in-Done.is) c.audit-a.auto.list
+
+-- src/printed.rt:100:39
+pub slice_bounds-put_total-end : goal.slice_bounds-put_total-end
+slice_bounds-put_total-end c =
+    let a = c.args in part_long _ _ (bytes_listed _ _ _ _ c.audit-a.ensures places (tables a.dim a.nodes a.faces a.cells a.face_rows_lem.now a.cell_rows_lem.now) _ refl _ _ c.in-Done.is) c.audit-a.auto.list
+
+-- src/printed.rt:71:1
+pub returns-in-Refused : goal.returns-in-Refused
+returns-in-Refused c = clean_refused _ _ _ _ c.audit-a.ensures _ _ _ _ _ _ _ c.in-Refused.is c.put_clean.ensures
+
+-- src/printed.rt:71:1
+pub returns-then-total-eq0 : goal.returns-then-total-eq0
+returns-then-total-eq0 c = clean_done _ _ _ _ c.audit-a.ensures _ _ _ _ _ _ _ _ c.in-Done.is c.if-total-eq0.true c.put_clean-then-total-eq0.ensures
+
+-- src/printed.rt:71:1
+pub returns-else-total-eq0 : goal.returns-else-total-eq0
+returns-else-total-eq0 c = faulty_done _ _ _ _ c.audit-a.ensures _ _ _ _ _ _ _ _ c.in-Done.is c.if-total-eq0.false c.put_total.ensures
