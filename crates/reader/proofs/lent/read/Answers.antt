@@ -12,8 +12,7 @@ use Rattle.reader.proofs.lent.read.Goals as goal
 pub fill-requires : goal.fill-requires
 fill-requires c =
     let e = told_only _ _ c.read_flat-c.ensures in
-    let lent : Lent = record { mantissas = c.args.mantissas.now; exponents = c.args.exponents.now; faces = c.args.faces.now; cells = c.args.cells.now; zones = c.args.zones.now } in
-    (
+    let lent : Lent = record { mantissas = c.args.mantissas.now; exponents = c.args.exponents.now; faces = c.args.faces.now; cells = c.args.cells.now; zones = c.args.zones.now } in (
       subst (λ (k : Core). k.found.zones ≤ 64) (sym e) (core_few c.args.text.now _ (tables_in lent)),
       subst (λ (k : Core). k.found.zones ≤ length c.args.zones.now) (sym e) (core_room c.args.text.now _ (tables_in lent)),
     )
@@ -24,5 +23,5 @@ returns c =
     let r = c.read_flat-c.result in
     let lent : Lent = record { mantissas = c.args.mantissas.now; exponents = c.args.exponents.now; faces = c.args.faces.now; cells = c.args.cells.now; zones = c.args.zones.now } in
     let after : List Zone → Result =
-        λ zs. record { reply = r.reply; held = record { mantissas = c.read_flat-c.new.mantissas; exponents = c.read_flat-c.new.exponents; faces = c.read_flat-c.new.faces; cells = c.read_flat-c.new.cells; zones = zs } } in
+    λ zs. record { reply = r.reply; held = record { mantissas = c.read_flat-c.new.mantissas; exponents = c.read_flat-c.new.exponents; faces = c.read_flat-c.new.faces; cells = c.read_flat-c.new.cells; zones = zs } } in
     ap outcome (ap after c.fill.ensures ∙ ap (λ (k : Core). with_zones k c.args.zones.now) e ∙ through_is c.args.text.now lent)

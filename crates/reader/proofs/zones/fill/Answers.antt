@@ -9,10 +9,9 @@ unfolding filled
 loop-i-init c = (omega arith, refl)
 
 pub loop-i-preserved : goal.loop-i-preserved
-loop-i-preserved c =
-    (
-      omega arith,
-      ap (λ l. set l c.loop-i.i c.zone_at-z.result) c.loop-i.invariant.1
-          ∙ ap (λ z. set (filled c.args.flat c.loop-i.i c.args.zs.now) c.loop-i.i z) c.zone_at-z.ensures
-          ∙ sym (filled_next c.args.flat c.loop-i.i c.args.zs.now),
-    )
+loop-i-preserved c = (
+  omega arith,
+  ap (λ l. set l c.loop-i.i c.zone_at-z.result) c.loop-i.invariant.1
+      ∙ ap (λ z. set (filled c.args.flat c.loop-i.i c.args.zs.now) c.loop-i.i z) c.zone_at-z.ensures
+      ∙ sym (filled_next c.args.flat c.loop-i.i c.args.zs.now),
+)
