@@ -1,4 +1,4 @@
-//! Tells the linker where the proved library is. `rt staticlib boundary` makes it.
+//! Tells the linker where the proved library is. host/build makes it.
 
 use std::path::Path;
 
@@ -9,7 +9,7 @@ fn main() {
     println!("cargo:rerun-if-env-changed=RAVNEKET_ARCHIVES");
     println!("cargo:rerun-if-changed={}", archive.display());
     if !archive.exists() {
-        println!("cargo:warning={} is not there: run host/build, or `rt staticlib boundary`", archive.display());
+        println!("cargo:warning={} is not there: run host/build", archive.display());
         std::process::exit(1);
     }
     println!("cargo:rustc-link-search=native={folder}");
