@@ -1,3 +1,2 @@
 // No function: the three demands stand in specs/, their proof in proofs/.
 #![tactic(auto)]
-

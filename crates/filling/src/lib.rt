@@ -1,8 +1,8 @@
 // The second pass: the tables that are lent, filled from a file that is judged first.
 #![tactic(auto)]
 
-mod flat;
 mod fill;
+mod flat;
 mod parts;
 mod tops;
 mod words;

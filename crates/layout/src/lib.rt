@@ -1,7 +1,6 @@
 // What a text mesh says and what reading it answers: types, definitions and theorems. No function: `numbering` has the number of a refusal.
 #![tactic(auto)]
 
-
 // Why a file is refused, in the order of the paper's numbers 1 to 14.
 #[derive(Clone, Copy)]
 pub enum Refusal {

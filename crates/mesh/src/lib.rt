@@ -1,7 +1,6 @@
 // What a mesh is made of: rows of the tables as values, and the zone record. No function: the audit takes rows apart, the reader stores them word by word.
 #![tactic(auto)]
 
-
 // Places for nodes in a face row.
 pub const PLACES: usize = 4;
 

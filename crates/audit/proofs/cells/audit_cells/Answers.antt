@@ -22,13 +22,12 @@ unfolding faults_of_cell
 kinds-init c = (lit≤ tt, lit≤ tt, cell_bits_at _ _ _ _ _ c.cell_of-cell.ensures c.cell_marks-marks.ensures, start _ 8 8 10 2 0 refl)
 
 pub cells-preserved : goal.cells-preserved
-cells-preserved c =
-    (
-      omega arith,
-      turn _ (c.cells.c + 1) _ _ 2 _ (omega arith) (omega arith) c.cells.invariant.1
-          (cell_visited _ _ c.args.counts.now _
-          (ended 2 (cell_kinds_empty _ _ _ _ _ c.kinds.invariant.2 c.kinds-test.false) (omega (arith, c.kinds.invariant.1)) c.kinds.invariant.3)),
-    )
+cells-preserved c = (
+  omega arith,
+  turn _ (c.cells.c + 1) _ _ 2 _ (omega arith) (omega arith) c.cells.invariant.1
+      (cell_visited _ _ c.args.counts.now _
+      (ended 2 (cell_kinds_empty _ _ _ _ _ c.kinds.invariant.2 c.kinds-test.false) (omega (arith, c.kinds.invariant.1)) c.kinds.invariant.3)),
+)
 
 pub visit-s-requires : goal.visit-s-requires
 visit-s-requires c = omega (arith, c.kinds.invariant.3.few, c.kinds.invariant.1, c.cells.invariant.1.few, c.requires.2)

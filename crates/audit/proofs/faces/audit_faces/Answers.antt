@@ -17,8 +17,7 @@ sound_to-f-requires c = (omega arith, c.requires.0, c.requires.2, omega (arith, 
 
 pub faces-init : goal.faces-init
 faces-init c =
-    let e = c.sound_to-f.ensures in
-    (
+    let e = c.sound_to-f.ensures in (
       e.within,
       omega (arith, e.tallied.kept, c.clear.auto.counts, c.requires.1),
       skip e.quiet (start _ 1 0 _ _ _ (omega arith)),
@@ -74,8 +73,7 @@ faces-smaller c =
 
 pub faces-preserved : goal.faces-preserved
 faces-preserved c =
-    let e = c.sound_to-f-in-faces.ensures in
-    (
+    let e = c.sound_to-f-in-faces.ensures in (
       e.within,
       omega (arith, e.tallied.kept, c.faces.invariant.1),
       skip e.quiet

@@ -32,8 +32,7 @@ returns-then-tally_face c =
 
 pub loop-f-preserved : goal.loop-f-preserved
 loop-f-preserved c =
-    let e = c.tally_face.ensures in
-    (
+    let e = c.tally_face.ensures in (
       omega arith,
       omega arith,
       omega (arith, c.tally_face.auto.counts, c.loop-f.invariant.2),

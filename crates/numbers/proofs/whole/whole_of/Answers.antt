@@ -34,8 +34,7 @@ overflow_mul-v c = Fits-le (omega arith) (overflow_add-v c)
 
 pub loop-i-preserved : goal.loop-i-preserved
 loop-i-preserved c =
-    let a = c.args in
-    (
+    let a = c.args in (
       search rules,
       grows a.base a.most c.loop-i.v c.digit_of-d.result c.loop-i.i c.requires.0 c.requires.1 (search rules) (search rules),
       digits_in_more a.w.now c.loop-i.i a.base c.loop-i.v c.loop-i.i _ (search rules) c.digit_of-d.ensures (search rules)
