@@ -1,3 +1,2 @@
 // Definitions and laws that several crates share and the toolchain's library lacks. No function.
 #![tactic(auto)]
-

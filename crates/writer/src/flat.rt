@@ -1,4 +1,4 @@
-// Zone records as words in a table of 64 records: what the writer over a list of records is made of. That one is proved step by step, so all that decides stands here.
+// Zone records as words in a table of 64 records: what the writer over a list of records is made of.
 ghost use Rattle.std.specs.Prelude.{◌<◌, min, ◌≡◌, replicate};
 ghost use Rattle.texts.specs.Write.{Out, out};
 ghost use Rattle.writer.specs.Writer.{values_of};
@@ -20,20 +20,17 @@ pub(crate) fn blank() -> [u32; 384]
     flat
 }
 
-// The table goes in and out by value: a table that is lent is one more borrow to follow in the loop.
-pub(crate) fn with_record(flat: [u32; 384], i: usize, z: Zone) -> [u32; 384]
+pub(crate) fn with_record(flat: &mut [u32; 384], i: usize, z: Zone)
     requires { i < 64 }
-    ensures { result ≡ with_record flat i z }
+    ensures { flat.new ≡ with_record flat.old i z }
 {
-    let mut t = flat;
     let b = 6 * i;
-    t[b] = z.section;
-    t[b + 1] = z.zone;
-    t[b + 2] = z.first;
-    t[b + 3] = z.last;
-    t[b + 4] = z.ztype;
-    t[b + 5] = z.element;
-    t
+    flat[b] = z.section;
+    flat[b + 1] = z.zone;
+    flat[b + 2] = z.first;
+    flat[b + 3] = z.last;
+    flat[b + 4] = z.ztype;
+    flat[b + 5] = z.element;
 }
 
 // A mesh has no more records than the table: with more, no text gives it.

@@ -1,4 +1,4 @@
-// The writer over a list of zone records. Both functions read such a list, so their proofs follow the code step by step: what decides is elsewhere.
+// The writer over a list of zone records.
 ghost use Rattle.std.specs.Prelude.{min, ◌≡◌, length};
 ghost use Rattle.texts.specs.Write.{Out, out, write_of, mesh_of};
 ghost use Rattle.writer.specs.Writer.{values_of, lent};
@@ -17,7 +17,7 @@ fn flat_of(zones: &[Zone]) -> [u32; 384]
     let mut i: usize = 0;
     while i < n {
         let z = zones[i];
-        flat = with_record(flat, i, z);
+        with_record(&mut flat, i, z);
         i += 1;
     }
     flat

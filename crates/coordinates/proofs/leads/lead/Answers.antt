@@ -14,11 +14,10 @@ returns-then-digits-eq0 c =
     _ c.power_lead-p.ensures c.if-digits-eq0.true
 
 pub finish_by-d-requires : goal.finish_by-d-requires
-finish_by-d-requires c =
-    (
-      back_ready _ c.if-w-gt-COORDINATE_BYTES.false _ c.sign_at-s.ensures _ c.digits_from-front.ensures _ c.fraction_from-back.ensures,
-      lead_mild _ _ _ c.power_lead-p.ensures,
-    )
+finish_by-d-requires c = (
+  back_ready _ c.if-w-gt-COORDINATE_BYTES.false _ c.sign_at-s.ensures _ c.digits_from-front.ensures _ c.fraction_from-back.ensures,
+  lead_mild _ _ _ c.power_lead-p.ensures,
+)
 
 -- digits, and what stands behind them
 pub returns : goal.returns

@@ -14,11 +14,10 @@ returns-then-digits-eq0 c =
     none_is _ c.if-w-gt-COORDINATE_BYTES.false _ c.sign_at-s.ensures _ c.digits_from-front.ensures _ c.fraction_from-back.ensures c.if-digits-eq0.true
 
 pub finish_by-requires : goal.finish_by-requires
-finish_by-requires c =
-    (
-      back_ready _ c.if-w-gt-COORDINATE_BYTES.false _ c.sign_at-s.ensures _ c.digits_from-front.ensures _ c.fraction_from-back.ensures,
-      rw c.power_at-p.ensures (mild _),
-    )
+finish_by-requires c = (
+  back_ready _ c.if-w-gt-COORDINATE_BYTES.false _ c.sign_at-s.ensures _ c.digits_from-front.ensures _ c.fraction_from-back.ensures,
+  rw c.power_at-p.ensures (mild _),
+)
 
 -- digits, and what stands behind them
 pub returns : goal.returns

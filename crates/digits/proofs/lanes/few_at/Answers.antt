@@ -1,7 +1,6 @@
 use Prim.Native.Nat.{ℕ}
 use mathlib.Core.Path.{◌≡◌, subst}
 use native.Mathlib.Nat.{le_refl}
-use Prim.Native.Nat.{◌-◌}
 use lib.ListN.{drop}
 use Rattle.digits.specs.Lanes.{Laned}
 use Rattle.digits.proofs.Beside.{laned_front, laned_rest, laned_none}

@@ -1,4 +1,4 @@
-use Prim.Native.Nat.{◌≤◌, ◌-◌}
+use Prim.Native.Nat.{◌≤◌}
 use lib.ListN.{length, drop}
 use Rattle.digits.specs.Lanes.{Laned}
 use Rattle.digits.proofs.lanes.few_at.Given as goal

@@ -5,7 +5,6 @@ use Rattle.nodefaults.proofs.OfNodes.{nodes_pair, nodes_flat, nodes_third, nodes
 use borrow.Author.Rules.{rules}
 use Rattle.nodefaults.proofs.sound.any_node_fault.Goals as goal
 
-
 pub returns-then-wrong_pair : goal.returns-then-wrong_pair
 returns-then-wrong_pair c = nodes_pair c.args.frame c.args.face (search rules) (sym c.wrong_pair.ensures ∙ c.if-wrong_pair.true)
 

@@ -8,12 +8,12 @@ use Rattle.report.proofs.printed.put_audit.Goals as goal
 -- src/printed.rt:100:39
 pub slice_bounds-list-end : goal.slice_bounds-list-end
 slice_bounds-list-end c =
-    let a = c.args in part_fits _ c.audit-a.new.1.1.1.1.1.1.1.0 (bytes_listed _ _ _ _ c.audit-a.ensures places (tables a.dim a.nodes a.faces a.cells a.face_rows_lem.now a.cell_rows_lem.now) _ refl _ _ c.in-Done.is) c.audit-a.auto.list
+    let a = c.args in part_fits _ c.audit-a.new.list (bytes_listed _ _ _ _ c.audit-a.ensures places (tables a.dim a.nodes a.faces a.cells a.face_rows.now a.cell_rows.now) _ refl _ _ c.in-Done.is) c.audit-a.auto.list
 
 -- src/printed.rt:100:39
 pub slice_bounds-put_total-end : goal.slice_bounds-put_total-end
 slice_bounds-put_total-end c =
-    let a = c.args in part_long _ _ (bytes_listed _ _ _ _ c.audit-a.ensures places (tables a.dim a.nodes a.faces a.cells a.face_rows_lem.now a.cell_rows_lem.now) _ refl _ _ c.in-Done.is) c.audit-a.auto.list
+    let a = c.args in part_long _ _ (bytes_listed _ _ _ _ c.audit-a.ensures places (tables a.dim a.nodes a.faces a.cells a.face_rows.now a.cell_rows.now) _ refl _ _ c.in-Done.is) c.audit-a.auto.list
 
 -- src/printed.rt:71:1
 pub returns-in-Refused : goal.returns-in-Refused
