@@ -5,14 +5,7 @@ use numbers::Whole;
 use tokens::{Cursor, Step, Token};
 
 fn is_word(k: Token) -> bool {
-    match k {
-        Token::Left => false,
-        Token::Right => false,
-        Token::Text => false,
-        Token::Word => true,
-        Token::Unclosed => false,
-        Token::End => false,
-    }
+    matches!(k, Token::Word)
 }
 
 // Keeps the word's number behind `count` others.
@@ -50,12 +43,10 @@ pub(crate) fn words_of(s: &[u8], words: &mut [u32]) -> usize
 {
     let mut c = Cursor::new();
     let mut count: usize = 0;
-    let mut i: usize = 0;
-    while i < s.len() {
+    for _ in 0..s.len() {
         let t = c.token(s);
         count = keep(s, t, words, count);
         c = t.next;
-        i += 1;
     }
     count
 }

@@ -9,8 +9,12 @@ mod shown;
 ghost use Rattle.std.specs.Prelude.{◌+◌, ◌≤◌, length};
 
 use input::words_of;
-use libc::STDIN_FILENO;
-use shown::{print_audited, print_counts, print_end, print_list};
+use shown::{print_audited, print_counts, print_list};
+use std::io;
+use std::io::{BufWriter, Read, Write};
+
+// Input is read up to here.
+const MOST: u64 = 65536;
 
 // Words before a case's rows.
 const HEAD: usize = 8;
@@ -21,7 +25,15 @@ const COUNTS: usize = 32;
 const LIST: usize = 256;
 
 // The case at `at`, whose parts are known to be there.
-fn judge(words: &[u32], at: usize, middle: usize, end: usize, counts: &mut [u32], list: &mut [u8])
+fn judge(
+    out: &mut impl Write,
+    words: &[u32],
+    at: usize,
+    middle: usize,
+    end: usize,
+    counts: &mut [u32],
+    list: &mut [u8],
+) -> io::Result<()>
     requires { (at + 8 ≤ middle) × (middle ≤ end) × (end ≤ length words.now) }
 {
     let start = at + HEAD;
@@ -39,10 +51,10 @@ fn judge(words: &[u32], at: usize, middle: usize, end: usize, counts: &mut [u32]
         counts,
         list,
     );
-    print_audited(a);
-    print_counts(counts);
-    print_list(list);
-    print_end();
+    print_audited(out, a)?;
+    print_counts(out, counts)?;
+    print_list(out, list)?;
+    writeln!(out)
 }
 
 fn wide(w: u32) -> usize {
@@ -50,13 +62,13 @@ fn wide(w: u32) -> usize {
 }
 
 // Answers where the next case begins, and the end where this one is not whole. Counts begin as 9, list bytes as 7.
-fn one_case(words: &[u32], at: usize) -> usize {
+fn one_case(out: &mut impl Write, words: &[u32], at: usize) -> io::Result<usize> {
     let size = words.len();
     if size < HEAD {
-        return size;
+        return Ok(size);
     }
     if size - HEAD < at {
-        return size;
+        return Ok(size);
     }
     let faces_at = at + HEAD;
     let face_words = wide(words[at + 4]);
@@ -64,62 +76,70 @@ fn one_case(words: &[u32], at: usize) -> usize {
     let room = wide(words[at + 6]);
     let bytes = wide(words[at + 7]);
     if size - faces_at < face_words {
-        return size;
+        return Ok(size);
     }
     let cells_at = faces_at + face_words;
     if size - cells_at < cell_words {
-        return size;
+        return Ok(size);
     }
     let end = cells_at + cell_words;
     if COUNTS < room {
-        return size;
+        return Ok(size);
     }
     if LIST < bytes {
-        return size;
+        return Ok(size);
     }
     let mut counts: [u32; 32] = [9; 32];
     let mut list: [u8; 256] = [7; 256];
     judge(
+        out,
         words,
         at,
         cells_at,
         end,
         &mut counts[..room],
         &mut list[..bytes],
-    );
-    end
+    )?;
+    Ok(end)
 }
 
-fn run(words: &[u32]) {
+fn run(out: &mut impl Write, words: &[u32]) -> io::Result<()> {
     let mut at: usize = 0;
-    let mut i: usize = 0;
-    while i < words.len() {
+    for _ in 0..words.len() {
         if at < words.len() {
-            at = one_case(words, at);
+            at = one_case(out, words, at)?;
         }
-        i += 1;
     }
+    Ok(())
 }
 
 // As many cells as there may be, and one more: each is a triangle with no side.
-fn largest() {
+fn largest(out: &mut impl Write) -> io::Result<()> {
     let none: [u32; 0] = [];
     let rows: [u32; 131072] = [1; 131072];
     let mut counts: [u32; 65536] = [9; 65536];
     let mut list: [u8; 14] = [7; 14];
-    print_audited(audit::audit(2, 65535, 0, 65535, &none, &rows, &mut counts, &mut list));
-    print_list(&list);
-    print_end();
-    print_audited(audit::audit(2, 65535, 0, 65536, &none, &rows, &mut counts, &mut list));
-    print_list(&list);
-    print_end();
+    print_audited(
+        out,
+        audit::audit(2, 65535, 0, 65535, &none, &rows, &mut counts, &mut list),
+    )?;
+    print_list(out, &list)?;
+    writeln!(out)?;
+    print_audited(
+        out,
+        audit::audit(2, 65535, 0, 65536, &none, &rows, &mut counts, &mut list),
+    )?;
+    print_list(out, &list)?;
+    writeln!(out)
 }
 
-fn main() {
-    let mut text: [u8; 65536] = [0; 65536];
+fn main(rt: HostRuntime) -> io::Result<()> {
+    let mut out = BufWriter::new(rt.alloc(), io::writer(&rt))?;
+    let mut text = Vec::new(rt.alloc());
+    rt.reader().take(MOST).read_to_end(&mut text)?;
     let mut words: [u32; 16384] = [0; 16384];
-    let n = io::read_full(STDIN_FILENO, &mut text);
-    let count = words_of(&text[..n], &mut words);
-    run(&words[..count]);
-    largest();
+    let count = words_of(&text, &mut words);
+    run(&mut out, &words[..count])?;
+    largest(&mut out)?;
+    out.flush()
 }

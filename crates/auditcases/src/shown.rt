@@ -1,63 +1,33 @@
 // What is printed of a case: number, total and bytes, then counts and list behind bars.
 use audit::{Audited, Refusal};
-use libc::STDOUT_FILENO;
+use std::io;
+use std::io::Write;
 
-fn print(n: u64) {
-    io::write_all(STDOUT_FILENO, b" ");
-    io::print_decimal(STDOUT_FILENO, n);
-}
-
-fn wide(b: u8) -> u64 {
-    b as u64
-}
-
-fn wide32(w: u32) -> u64 {
-    w as u64
-}
-
-pub(crate) fn print_end() {
-    io::write_all(STDOUT_FILENO, b"\n");
-}
-
-pub(crate) fn print_counts(counts: &[u32]) {
-    io::write_all(STDOUT_FILENO, b" |");
-    let mut i: usize = 0;
-    while i < counts.len() {
-        print(wide32(counts[i]));
-        i += 1;
+pub(crate) fn print_counts(out: &mut impl Write, counts: &[u32]) -> io::Result<()> {
+    write!(out, " |")?;
+    for n in counts {
+        write!(out, " {n}")?;
     }
+    Ok(())
 }
 
-pub(crate) fn print_list(list: &[u8]) {
-    io::write_all(STDOUT_FILENO, b" |");
-    let mut i: usize = 0;
-    while i < list.len() {
-        print(wide(list[i]));
-        i += 1;
+pub(crate) fn print_list(out: &mut impl Write, list: &[u8]) -> io::Result<()> {
+    write!(out, " |")?;
+    for b in list {
+        write!(out, " {b}")?;
     }
+    Ok(())
 }
 
-fn print_answer(number: u64, total: u64, bytes: u64) {
-    io::print_decimal(STDOUT_FILENO, number);
-    print(total);
-    print(bytes);
+fn print_answer(out: &mut impl Write, number: u32, total: u32, bytes: usize) -> io::Result<()> {
+    write!(out, "{number} {total} {bytes}")
 }
 
-pub(crate) fn print_audited(a: Audited) {
+pub(crate) fn print_audited(out: &mut impl Write, a: Audited) -> io::Result<()> {
     match a {
-        Audited::Done { total, bytes } => {
-            print_answer(0, total as u64, bytes as u64);
-        }
-        Audited::Refused(r) => match r {
-            Refusal::Dimension => {
-                print_answer(15, 0, 0);
-            }
-            Refusal::Totals => {
-                print_answer(16, 0, 0);
-            }
-            Refusal::Counts => {
-                print_answer(17, 0, 0);
-            }
-        },
+        Audited::Done { total, bytes } => print_answer(out, 0, total, bytes),
+        Audited::Refused(Refusal::Dimension) => print_answer(out, 15, 0, 0),
+        Audited::Refused(Refusal::Totals) => print_answer(out, 16, 0, 0),
+        Audited::Refused(Refusal::Counts) => print_answer(out, 17, 0, 0),
     }
 }

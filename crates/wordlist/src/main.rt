@@ -2,13 +2,20 @@
 // a line for each, and behind a word what it is as a number of each sort.
 #![tactic(auto)]
 
-ghost use Rattle.std.specs.Prelude.{length};
+ghost use Rattle.std.specs.Prelude.{length, IfOk};
 ghost use Rattle.wordlist.specs.Turn.{Ahead};
 
 use decimals::Decimal;
-use libc::{STDIN_FILENO, STDOUT_FILENO};
 use numbers::Whole;
+use std::alloc::Global;
+use std::fs::File;
+use std::io::{BufWriter, Read, Write};
+use std::rt::Files;
+use std::{env, io};
 use tokens::{Cursor, Token};
+
+// Input over this many bytes is not listed.
+const MOST: usize = 65536;
 
 // Whether more stands behind a token, and from where on.
 #[derive(Clone, Copy)]
@@ -17,156 +24,107 @@ enum Turn {
     Done,
 }
 
-fn put(text: &[u8]) {
-    io::write_all(STDOUT_FILENO, text);
-}
-
-fn put_number(n: u64) {
-    io::print_decimal(STDOUT_FILENO, n);
-}
-
-fn put_signed(m: i64) {
-    if m < 0 {
-        put(b"-");
-    }
-    put_number(decimals::magnitude(m));
-}
-
-fn wide(e: i32) -> i64 {
-    e as i64
-}
-
-fn put_whole(k: Whole) {
+fn put_whole(out: &mut impl Write, k: Whole) -> io::Result<()> {
     match k {
-        Whole::Is(v) => put_number(v as u64),
-        Whole::Not => put(b"-"),
+        Whole::Is(v) => write!(out, "{v}"),
+        Whole::Not => write!(out, "-"),
     }
 }
 
-fn put_decimal(d: Decimal) {
+fn put_decimal(out: &mut impl Write, d: Decimal) -> io::Result<()> {
     match d {
-        Decimal::Is { mantissa, exponent } => {
-            put_signed(mantissa);
-            put(b" ");
-            put_signed(wide(exponent));
-        }
-        Decimal::Not => put(b"-"),
+        Decimal::Is { mantissa, exponent } => write!(out, "{mantissa} {exponent}"),
+        Decimal::Not => write!(out, "-"),
     }
 }
 
-fn put_word(w: &[u8]) {
-    put(b"word ");
-    put(w);
-    put(b" id ");
-    put_whole(numbers::section_id(w));
-    put(b" hex ");
-    put_whole(numbers::hexadecimal(w));
-    put(b" coordinate ");
-    put_decimal(coordinates::coordinate(w));
-    put(b"\n");
+// The word's own bytes, which may be no text, and its numbers.
+fn put_word(out: &mut impl Write, w: &[u8]) -> io::Result<()> {
+    write!(out, "word ")?;
+    out.write_all(w)?;
+    write!(out, " id ")?;
+    put_whole(out, numbers::section_id(w))?;
+    write!(out, " hex ")?;
+    put_whole(out, numbers::hexadecimal(w))?;
+    write!(out, " coordinate ")?;
+    put_decimal(out, coordinates::coordinate(w))?;
+    writeln!(out)
 }
 
 // The line of the first token at or behind the cursor.
-fn put_token(s: &[u8], c: Cursor) -> Turn
-    ensures { Ahead c.at (length s.now) result }
+fn put_token(out: &mut impl Write, s: &[u8], c: Cursor) -> io::Result<Turn>
+    ensures { IfOk result (λ turn. Ahead c.at (length s.now) turn) }
 {
     let t = c.token(s);
     let start = t.start;
     let next = t.next;
-    put_number(start as u64);
-    put(b" ");
-    let k = t.token;
-    match k {
-        Token::Left => {
-            put(b"(\n");
-            Turn::Go(next)
-        }
-        Token::Right => {
-            put(b")\n");
-            Turn::Go(next)
-        }
-        Token::Text => {
-            put(b"string\n");
-            Turn::Go(next)
-        }
-        Token::Word => {
-            let end = next.at;
-            put_word(&s[start..end]);
-            Turn::Go(next)
-        }
+    write!(out, "{start} ")?;
+    match t.token {
+        Token::Left => writeln!(out, "(")?,
+        Token::Right => writeln!(out, ")")?,
+        Token::Text => writeln!(out, "string")?,
+        Token::Word => put_word(out, &s[start..next.at])?,
         Token::Unclosed => {
-            put(b"unclosed\n");
-            Turn::Done
+            writeln!(out, "unclosed")?;
+            return Ok(Turn::Done);
         }
         Token::End => {
-            put(b"end\n");
-            Turn::Done
+            writeln!(out, "end")?;
+            return Ok(Turn::Done);
         }
     }
+    Ok(Turn::Go(next))
 }
 
-fn put_tokens(s: &[u8]) {
+fn put_tokens(out: &mut impl Write, s: &[u8]) -> io::Result<()> {
     let mut c = Cursor::new();
     loop {
-        let Turn::Go(next) = put_token(s, c) else {
-            return;
+        let Turn::Go(next) = put_token(out, s, c)? else {
+            return Ok(());
         };
         c = next;
     }
 }
 
-// Is there more behind the n bytes that were read?
-fn is_over(fd: i32, n: usize) -> bool {
-    if n < 65536 {
-        return false;
-    }
-    let mut more: [u8; 1] = [0; 1];
-    let m = io::read_full(fd, &mut more);
-    0 < m
+// Is there more behind the bytes that were read?
+fn is_over(input: &mut impl Read) -> io::Result<bool> {
+    let next = input.bytes().next().transpose()?;
+    Ok(next.is_some())
 }
 
-fn put_input(fd: i32) {
-    let mut input: [u8; 65536] = [0; 65536];
-    let n = io::read_full(fd, &mut input);
-    if is_over(fd, n) {
-        put(b"input over 65536\n");
-        return;
+fn put_input(alloc: Global, out: &mut impl Write, input: &mut impl Read) -> io::Result<()> {
+    let mut text = Vec::with_capacity(alloc, MOST)?;
+    input.by_ref().take(MOST as u64).read_to_end(&mut text)?;
+    if is_over(input)? {
+        return writeln!(out, "input over {MOST}");
     }
-    put_tokens(&input[..n]);
+    put_tokens(out, &text)
 }
 
-fn put_file(name: &[u8]) {
-    put(b"file ");
-    put(name);
-    put(b"\n");
-    let fd = os::open_read(name);
-    if fd < 0 {
-        os::fail(name);
-        return;
+// A file that can't be opened is named on standard error, and the next one is listed.
+fn put_file(
+    rt: &(impl Files + Eprint + AllocGlobal),
+    out: &mut impl Write,
+    name: &str,
+) -> io::Result<()> {
+    writeln!(out, "file {name}")?;
+    match File::open(rt, name) {
+        Ok(mut file) => put_input(rt.alloc(), out, &mut file),
+        Err(e) => {
+            out.flush()?;
+            eprintln!(rt; "{name}: {e}")
+        }
     }
-    put_input(fd);
-    libc::close(fd);
 }
 
-fn put_argument(i: usize) {
-    let mut name = io::buffer();
-    let n = os::arg(i, &mut name);
-    if os::errno() != 0 {
-        os::fail(b"argument");
-        return;
+fn main(rt: HostRuntime) -> io::Result<()> {
+    let mut out = BufWriter::new(rt.alloc(), io::writer(&rt))?;
+    let args = env::args(&rt)?;
+    if args.len() < 2 {
+        put_input(rt.alloc(), &mut out, &mut rt.reader())?;
     }
-    put_file(&name[..n]);
-}
-
-fn main() {
-    let count = os::arg_count();
-    if count < 2 {
-        put_input(STDIN_FILENO);
-        return;
+    for name in args.skip(1) {
+        put_file(&rt, &mut out, name.as_str())?;
     }
-    let mut i = 1;
-    while i < count {
-        put_argument(i);
-        i += 1;
-    }
+    out.flush()
 }
