@@ -64,9 +64,9 @@ module _ (m n : Mesh) (s : SameMesh m n) where
       let y = section_alike (pos 0) node_words g m.nodes m.held.exponents n.held.exponents h.low h.order h.high a.0.1 b.0.1 s.exponents in
       λ i. points d (points_of d (x i) (y i))
   body_alike cell z h a b =
-      ap (λ r. elements (map element_of r)) (section_alike 0 cell_words (head_of cell d z) m.cells m.held.cells n.held.cells h.low h.order h.high a.0.0 b.0.0 s.cell_rows_lem)
+      ap (λ r. elements (map element_of r)) (section_alike 0 cell_words (head_of cell d z) m.cells m.held.cells n.held.cells h.low h.order h.high a.0.0 b.0.0 s.cell_rows)
   body_alike face z h a b =
-      ap (λ r. facets (map facet_of r)) (section_alike 0 (face_words places) (head_of face d z) m.faces m.held.faces n.held.faces h.low h.order h.high a.0.0 b.0.0 s.face_rows_lem)
+      ap (λ r. facets (map facet_of r)) (section_alike 0 (face_words places) (head_of face d z) m.faces m.held.faces n.held.faces h.low h.order h.high a.0.0 b.0.0 s.face_rows)
 
   parts_alike : (zs : List Zone) → Each (Known m) zs → Each (AllRowed m) zs → Each (AllRowed n) zs → parts_of d m.held zs ≡ parts_of d n.held zs
   parts_alike [] h a b = refl

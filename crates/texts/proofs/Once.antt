@@ -82,8 +82,8 @@ module _ (m : Mesh) (w : Writable m) where
         zones = refl;
         mantissas = same_rows (pos 0) mantissa_table (node_formed (λ x. x.mantissa)) r (items_of m) z w.fits p.mantissas q.mantissas m.nodes (tiled node m.nodes (declared_in m node)) (omega arith);
         exponents = same_rows (pos 0) exponent_table (node_formed (λ x. x.exponent)) r (items_of m) z w.fits p.exponents q.exponents m.nodes (tiled node m.nodes (declared_in m node)) (omega arith);
-        face_rows_lem = same_rows 0 face_table face_formed r (items_of m) z w.fits p.faces q.faces m.faces (tiled face m.faces (declared_in m face)) (omega arith);
-        cell_rows_lem = same_rows 0 cell_table cell_formed r (items_of m) z w.fits p.cells q.cells m.cells (tiled cell m.cells (declared_in m cell)) (omega arith);
+        face_rows = same_rows 0 face_table face_formed r (items_of m) z w.fits p.faces q.faces m.faces (tiled face m.faces (declared_in m face)) (omega arith);
+        cell_rows = same_rows 0 cell_table cell_formed r (items_of m) z w.fits p.cells q.cells m.cells (tiled cell m.cells (declared_in m cell)) (omega arith);
         records = λ i l.
             let k : i < length (zones_of (items_of m)) = omega (arith, parts_counted m w, zones_length (items_of m)) in
             let here : 0 + i ≡ i = omega arith in
@@ -174,7 +174,7 @@ module _ (m n : Mesh) (w : Writable m) (v : Writable n) (l : length (mesh_text m
         zones = parts_counted m w ∙ ap parts_in items_same ∙ sym (parts_counted n v);
         mantissas = h.mantissas;
         exponents = h.exponents;
-        face_rows_lem = h.face_rows_lem;
-        cell_rows_lem = h.cell_rows_lem;
+        face_rows = h.face_rows;
+        cell_rows = h.cell_rows;
         records = h.records;
       }

@@ -97,8 +97,8 @@ lent_same m =
       zones = refl;
       mantissas = λ i l. refl;
       exponents = λ i l. refl;
-      face_rows_lem = λ i l. refl;
-      cell_rows_lem = λ i l. refl;
+      face_rows = λ i l. refl;
+      cell_rows = λ i l. refl;
       records = λ i l. sym (get_or-take m.zones m.held.zones i no_zone l);
     }
 

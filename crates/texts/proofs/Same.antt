@@ -74,8 +74,8 @@ same_refl m =
       zones = refl;
       mantissas = λ i l. refl;
       exponents = λ i l. refl;
-      face_rows_lem = λ i l. refl;
-      cell_rows_lem = λ i l. refl;
+      face_rows = λ i l. refl;
+      cell_rows = λ i l. refl;
       records = λ i l. refl;
     }
 
@@ -89,8 +89,8 @@ same_sym m n s =
       zones = sym s.zones;
       mantissas = λ i l. sym (s.mantissas i (omega (arith, s.nodes)));
       exponents = λ i l. sym (s.exponents i (omega (arith, s.nodes)));
-      face_rows_lem = λ i l. sym (s.face_rows_lem i (omega (arith, s.faces)));
-      cell_rows_lem = λ i l. sym (s.cell_rows_lem i (omega (arith, s.cells)));
+      face_rows = λ i l. sym (s.face_rows i (omega (arith, s.faces)));
+      cell_rows = λ i l. sym (s.cell_rows i (omega (arith, s.cells)));
       records = λ i l. sym (s.records i (omega (arith, s.zones)));
     }
 
@@ -104,7 +104,7 @@ same_trans m n o s t =
       zones = s.zones ∙ t.zones;
       mantissas = λ i l. s.mantissas i l ∙ t.mantissas i (omega (arith, s.nodes));
       exponents = λ i l. s.exponents i l ∙ t.exponents i (omega (arith, s.nodes));
-      face_rows_lem = λ i l. s.face_rows_lem i l ∙ t.face_rows_lem i (omega (arith, s.faces));
-      cell_rows_lem = λ i l. s.cell_rows_lem i l ∙ t.cell_rows_lem i (omega (arith, s.cells));
+      face_rows = λ i l. s.face_rows i l ∙ t.face_rows i (omega (arith, s.faces));
+      cell_rows = λ i l. s.cell_rows i l ∙ t.cell_rows i (omega (arith, s.cells));
       records = λ i l. s.records i l ∙ t.records i (omega (arith, s.zones));
     }

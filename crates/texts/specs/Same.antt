@@ -18,8 +18,8 @@ pub record SameMesh (m n : Mesh) : Type 0 where
   pub zones : m.zones ≡ n.zones
   pub mantissas : SameWords (pos 0) (node_words * m.nodes) m.held.mantissas n.held.mantissas
   pub exponents : SameWords (pos 0) (node_words * m.nodes) m.held.exponents n.held.exponents
-  pub face_rows_lem : SameWords 0 (face_words places * m.faces) m.held.faces n.held.faces
-  pub cell_rows_lem : SameWords 0 (cell_words * m.cells) m.held.cells n.held.cells
+  pub face_rows : SameWords 0 (face_words places * m.faces) m.held.faces n.held.faces
+  pub cell_rows : SameWords 0 (cell_words * m.cells) m.held.cells n.held.cells
   pub records : SameWords no_zone m.zones m.held.zones n.held.zones
 
 -- "with as much room": whole rows for the totals, and a place for every record
