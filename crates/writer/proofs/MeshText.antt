@@ -93,16 +93,16 @@ module _ (d : ℕ) (l : Lent) (z : Zone) where
   puttable_by : (k : Kind) → z.section ≡ id_of k → RowsAgain k d l (head_of k d z) → (room : Room) (before : List Item)
       → PartFits room before k (head_of k d z) (body_of k d l (head_of k d z)) → Writes (section_for k d l z) → Puttable l.mantissas l.exponents l.faces l.cells z
   puttable_by node s r room before f w =
-      record { low = f.low; order = f.order; node_rows_lem = λ e. (r.0, r.1); cell_rows_lem = λ e. absurd (omega arith); face_rows_lem = λ a b. absurd (a s) }
+      record { low = f.low; order = f.order; node_rows = λ e. (r.0, r.1); cell_rows = λ e. absurd (omega arith); face_rows = λ a b. absurd (a s) }
   puttable_by cell s r room before f w =
-      record { low = f.low; order = f.order; node_rows_lem = λ e. absurd (omega arith); cell_rows_lem = λ e. r.0; face_rows_lem = λ a b. absurd (b s) }
+      record { low = f.low; order = f.order; node_rows = λ e. absurd (omega arith); cell_rows = λ e. r.0; face_rows = λ a b. absurd (b s) }
   puttable_by face s r room before f w =
       record {
         low = f.low;
         order = f.order;
-        node_rows_lem = λ e. absurd (omega arith);
-        cell_rows_lem = λ e. absurd (omega arith);
-        face_rows_lem = λ a b. (r.0, rows_some z.ztype (rows_of 8 (rows_in z.first z.last) (drop (8 * (z.first - 1)) l.faces)) r.1 (faces_some w.2 f.fifth));
+        node_rows = λ e. absurd (omega arith);
+        cell_rows = λ e. absurd (omega arith);
+        face_rows = λ a b. (r.0, rows_some z.ztype (rows_of 8 (rows_in z.first z.last) (drop (8 * (z.first - 1)) l.faces)) r.1 (faces_some w.2 f.fifth));
       }
 
   puttable : (a : ZoneAgain d l z) (room : Room) (before : List Item) → Fits room before (part_of d l z) → Writes (part_of d l z) → Puttable l.mantissas l.exponents l.faces l.cells z

@@ -41,8 +41,8 @@ module _ (d nodes faces cells : ℕ) (ms es : List ℤ) (fs cs words : List ℕ)
   record Lends : Type 0 where
     pub mantissas : nodes ≤ length ms / 3
     pub exponents : nodes ≤ length es / 3
-    pub cell_rows_lem : cells ≤ length cs / 2
-    pub face_rows_lem : faces ≤ length fs / 8
+    pub cell_rows : cells ≤ length cs / 2
+    pub face_rows : faces ≤ length fs / 8
 
   lends : front_by m ≡ true → Lends
   unfolding front_by
@@ -54,8 +54,8 @@ module _ (d nodes faces cells : ℕ) (ms es : List ℤ) (fs cs words : List ℕ)
       record {
         mantissas = omega (arith, x, min-le_left (length ms / 3) (length es / 3));
         exponents = omega (arith, x, min-le_right (length ms / 3) (length es / 3));
-        cell_rows_lem = leb-true cells (length cs / 2) (and_split (leb cells rows) _ c.0).1;
-        face_rows_lem = leb-true faces (length fs / 8) (and_split (leb faces rows) _ c.1).1;
+        cell_rows = leb-true cells (length cs / 2) (and_split (leb cells rows) _ c.0).1;
+        face_rows = leb-true faces (length fs / 8) (and_split (leb faces rows) _ c.1).1;
       }
 
   module _ (l : Lends) where
@@ -64,14 +64,14 @@ module _ (d nodes faces cells : ℕ) (ms es : List ℤ) (fs cs words : List ℕ)
         record {
           low = a;
           order = b;
-          node_rows_lem = λ _. (omega (arith, l.mantissas), omega (arith, l.exponents));
-          cell_rows_lem = λ q. absurd (omega arith);
-          face_rows_lem = λ q. absurd (omega arith);
+          node_rows = λ _. (omega (arith, l.mantissas), omega (arith, l.exponents));
+          cell_rows = λ q. absurd (omega arith);
+          face_rows = λ q. absurd (omega arith);
         }
     ranged_by cell z e a b c =
-        record { low = a; order = b; node_rows_lem = λ q. absurd (omega arith); cell_rows_lem = λ _. omega (arith, l.cell_rows_lem); face_rows_lem = λ q. absurd (omega arith) }
+        record { low = a; order = b; node_rows = λ q. absurd (omega arith); cell_rows = λ _. omega (arith, l.cell_rows); face_rows = λ q. absurd (omega arith) }
     ranged_by face z e a b c =
-        record { low = a; order = b; node_rows_lem = λ q. absurd (omega arith); cell_rows_lem = λ q. absurd (omega arith); face_rows_lem = λ _. omega (arith, l.face_rows_lem) }
+        record { low = a; order = b; node_rows = λ q. absurd (omega arith); cell_rows = λ q. absurd (omega arith); face_rows = λ _. omega (arith, l.face_rows) }
 
     ranged_one : (before : List Zone) (z : Zone) → record_fits m before z ≡ true → Ranged ms es fs cs z
     unfolding record_fits

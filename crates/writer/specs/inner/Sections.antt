@@ -43,9 +43,9 @@ parts_bytes d ms es faces cells (suc n) l = section_bytes d ms es faces cells (z
 pub record Puttable (ms es : List ℤ) (faces cells : List ℕ) (z : Zone) : Type 0 where
   pub low : 1 ≤ z.first
   pub order : z.first ≤ z.last
-  pub node_rows_lem : z.section ≡ 10 → (3 * (z.first - 1) + rows_in z.first z.last * 3 ≤ length ms) × (3 * (z.first - 1) + rows_in z.first z.last * 3 ≤ length es)
-  pub cell_rows_lem : z.section ≡ 12 → 2 * (z.first - 1) + rows_in z.first z.last * 2 ≤ length cells
-  pub face_rows_lem : (z.section ≡ 10 → ⊥) → (z.section ≡ 12 → ⊥)
+  pub node_rows : z.section ≡ 10 → (3 * (z.first - 1) + rows_in z.first z.last * 3 ≤ length ms) × (3 * (z.first - 1) + rows_in z.first z.last * 3 ≤ length es)
+  pub cell_rows : z.section ≡ 12 → 2 * (z.first - 1) + rows_in z.first z.last * 2 ≤ length cells
+  pub face_rows : (z.section ≡ 10 → ⊥) → (z.section ≡ 12 → ⊥)
       → (8 * (z.first - 1) + rows_in z.first z.last * 8 ≤ length faces) × Each SomeCorners (rows_of 8 (rows_in z.first z.last) (drop (8 * (z.first - 1)) faces))
 
 abbrev pub AllPuttable : List ℤ → List ℤ → List ℕ → List ℕ → ℕ → List ℕ → Type 0
@@ -65,9 +65,9 @@ mesh_bytes d nodes cellTotal faceTotal ms es faces cells zones =
 pub record Ranged (ms es : List ℤ) (faces cells : List ℕ) (z : Zone) : Type 0 where
   pub low : 1 ≤ z.first
   pub order : z.first ≤ z.last
-  pub node_rows_lem : z.section ≡ 10 → (3 * (z.first - 1) + rows_in z.first z.last * 3 ≤ length ms) × (3 * (z.first - 1) + rows_in z.first z.last * 3 ≤ length es)
-  pub cell_rows_lem : z.section ≡ 12 → 2 * (z.first - 1) + rows_in z.first z.last * 2 ≤ length cells
-  pub face_rows_lem : z.section ≡ 13 → 8 * (z.first - 1) + rows_in z.first z.last * 8 ≤ length faces
+  pub node_rows : z.section ≡ 10 → (3 * (z.first - 1) + rows_in z.first z.last * 3 ≤ length ms) × (3 * (z.first - 1) + rows_in z.first z.last * 3 ≤ length es)
+  pub cell_rows : z.section ≡ 12 → 2 * (z.first - 1) + rows_in z.first z.last * 2 ≤ length cells
+  pub face_rows : z.section ≡ 13 → 8 * (z.first - 1) + rows_in z.first z.last * 8 ≤ length faces
 
 abbrev pub AllRanged : List ℤ → List ℤ → List ℕ → List ℕ → ℕ → List ℕ → Type 0
 AllRanged ms es faces cells zero l = Unit
