@@ -1,67 +1,59 @@
 // Prints the name of each file that its arguments name and the report on the mesh in it.
 #![tactic(auto)]
 
-use libc::STDOUT_FILENO;
+use std::alloc::Global;
+use std::fs::File;
+use std::io::{BufWriter, Read, Write};
+use std::rt::Files;
+use std::{env, io};
 
-fn put(text: &[u8]) {
-    io::write_all(STDOUT_FILENO, text);
+// No report is made of a file over this many bytes.
+const MOST: usize = 65536;
+
+fn print_report(out: &mut impl Write, text: &[u8]) -> io::Result<()> {
+    let mut report: [u8; 16384] = [0; 16384];
+    let n = report::report(text, &mut report);
+    if n <= report.len() {
+        out.write_all(&report[..n])?;
+    }
+    Ok(())
 }
 
-fn print_report(text: &[u8]) {
-    let mut out: [u8; 16384] = [0; 16384];
-    let n = report::report(text, &mut out);
-    if n <= out.len() {
-        io::write_all(STDOUT_FILENO, &out[..n]);
+// Whether the file goes on behind the bytes that were read.
+fn goes_on(file: &mut impl Read) -> io::Result<bool> {
+    let next = file.bytes().next().transpose()?;
+    Ok(next.is_some())
+}
+
+fn print_mesh(alloc: Global, out: &mut impl Write, file: &mut impl Read) -> io::Result<()> {
+    let mut text = Vec::with_capacity(alloc, MOST)?;
+    file.by_ref().take(MOST as u64).read_to_end(&mut text)?;
+    if goes_on(file)? {
+        return writeln!(out, "input over {MOST}");
+    }
+    print_report(out, &text)
+}
+
+// A file that can't be opened is named on standard error, and the next one is read.
+fn print_file(
+    rt: &(impl Files + Eprint + AllocGlobal),
+    out: &mut impl Write,
+    name: &str,
+) -> io::Result<()> {
+    writeln!(out, "{name}")?;
+    match File::open(rt, name) {
+        Ok(mut file) => print_mesh(rt.alloc(), out, &mut file),
+        Err(e) => {
+            out.flush()?;
+            eprintln!(rt; "{name}: {e}")
+        }
     }
 }
 
-// Whether the file goes on behind the n bytes that were read.
-fn goes_on(fd: i32, n: usize) -> bool {
-    if n < 65536 {
-        return false;
+fn main(rt: HostRuntime) -> io::Result<()> {
+    let mut out = BufWriter::new(rt.alloc(), io::writer(&rt))?;
+    for name in env::args(&rt)?.skip(1) {
+        print_file(&rt, &mut out, name.as_str())?;
     }
-    let mut more: [u8; 1] = [0; 1];
-    let m = io::read_full(fd, &mut more);
-    0 < m
-}
-
-fn print_mesh(fd: i32) {
-    let mut input: [u8; 65536] = [0; 65536];
-    let n = io::read_full(fd, &mut input);
-    if goes_on(fd, n) {
-        put(b"input over 65536\n");
-        return;
-    }
-    print_report(&input[..n]);
-}
-
-fn print_file(name: &[u8]) {
-    put(name);
-    put(b"\n");
-    let fd = os::open_read(name);
-    if fd < 0 {
-        os::fail(name);
-        return;
-    }
-    print_mesh(fd);
-    libc::close(fd);
-}
-
-fn print_argument(i: usize) {
-    let mut name = io::buffer();
-    let n = os::arg(i, &mut name);
-    if os::errno() != 0 {
-        os::fail(b"argument");
-        return;
-    }
-    print_file(&name[..n]);
-}
-
-fn main() {
-    let count = os::arg_count();
-    let mut i = 1;
-    while i < count {
-        print_argument(i);
-        i += 1;
-    }
+    out.flush()
 }

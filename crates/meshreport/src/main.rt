@@ -1,44 +1,39 @@
 // The report program: reads a mesh from standard input and prints what reading and auditing it answer.
 #![tactic(auto)]
 
-use libc::{STDERR_FILENO, STDIN_FILENO, STDOUT_FILENO};
+use std::io;
+use std::io::Read;
 
-// Whether the input goes on behind the buffer.
-fn goes_on() -> bool {
-    let mut more: [u8; 1] = [0; 1];
-    let n = io::read_full(STDIN_FILENO, &mut more);
-    0 < n
+// No report is made of input over this many bytes.
+const MOST: usize = 65536;
+
+// Whether the input goes on behind the bytes that were read.
+fn goes_on(input: &mut impl Read) -> io::Result<bool> {
+    let next = input.bytes().next().transpose()?;
+    Ok(next.is_some())
 }
 
-// Whether reading fails: what was read would else be taken for the whole input.
-fn fails() -> bool {
-    let mut more: [u8; 1] = [0; 1];
-    let got = libc::read(STDIN_FILENO, &mut more);
-    got < 0
+// Reads as many bytes as a report is made of, and answers whether there are more.
+fn read_text(input: &mut impl Read, text: &mut Vec<u8>) -> io::Result<bool> {
+    input.by_ref().take(MOST as u64).read_to_end(text)?;
+    goes_on(input)
 }
 
-fn print_report(text: &[u8]) {
-    let mut out: [u8; 16384] = [0; 16384];
-    let n = report::report(text, &mut out);
-    if n <= out.len() {
-        io::write_all(STDOUT_FILENO, &out[..n]);
+fn print_report(rt: &impl Print, text: &[u8]) -> io::Result<()> {
+    let mut report: [u8; 16384] = [0; 16384];
+    let n = report::report(text, &mut report);
+    if n <= report.len() {
+        rt.write_all(&report[..n])?;
     }
+    Ok(())
 }
 
-fn main() {
-    let mut input: [u8; 65536] = [0; 65536];
-    let n = io::read_full(STDIN_FILENO, &mut input);
-    if n < 65536 {
-        if fails() {
-            io::write_all(STDERR_FILENO, b"meshreport: standard input can't be read\n");
-            return;
-        }
-        print_report(&input[..n]);
-        return;
+// Input that fails gets no report: what was read would else be taken for the whole.
+fn main(rt: HostRuntime) -> io::Result<()> {
+    let mut text = Vec::with_capacity(rt.alloc(), MOST)?;
+    match read_text(&mut rt.reader(), &mut text) {
+        Ok(false) => print_report(&rt, &text),
+        Ok(true) => println!(rt; "input over {MOST}"),
+        Err(_) => eprintln!(rt; "meshreport: standard input can't be read"),
     }
-    if goes_on() {
-        io::write_all(STDOUT_FILENO, b"input over 65536\n");
-        return;
-    }
-    print_report(&input);
 }

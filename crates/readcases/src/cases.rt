@@ -8,14 +8,12 @@ pub(crate) fn line_end(s: &[u8], at: usize) -> usize
     requires { at ≤ length s.now }
     ensures { (at ≤ result) × (result ≤ length s.now) }
 {
-    let mut i = at;
-    while i < s.len() {
+    for i in at..s.len() {
         if s[i] == LINE_FEED {
             return i;
         }
-        i += 1;
     }
-    i
+    s.len()
 }
 
 // Is this the line feed before a line that begins with %%?
@@ -36,12 +34,10 @@ pub(crate) fn text_end(s: &[u8], at: usize) -> usize
     requires { at ≤ length s.now }
     ensures { (at ≤ result) × (result ≤ length s.now) }
 {
-    let mut i = at;
-    while 3 <= s.len() - i {
+    for i in at..s.len().saturating_sub(2) {
         if is_mark(s, i) {
             return i;
         }
-        i += 1;
     }
     s.len()
 }

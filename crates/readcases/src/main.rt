@@ -13,12 +13,16 @@ mod cases;
 mod rooms;
 mod shown;
 
-ghost use Rattle.std.specs.Prelude.{◌<◌, ◌≤◌, length};
+ghost use Rattle.std.specs.Prelude.{◌<◌, ◌≤◌, IfOk, length};
 
 use cases::{line_end, text_end};
-use libc::{STDIN_FILENO, STDOUT_FILENO};
 use rooms::{least, words_of};
-use shown::{print_exponents, print_mantissas, print_reply, print_rows, print_zones};
+use shown::{print_reply, print_rows, print_zones};
+use std::io;
+use std::io::{BufWriter, Read, Write};
+
+// Input is read up to here.
+const MOST: u64 = 65536;
 
 // What a case may be lent: 24 rows of each kind.
 const NODE_WORDS: usize = 72;
@@ -31,27 +35,28 @@ const CELL_WORDS: usize = 48;
 const ZONES: usize = 65535;
 
 fn judge(
+    out: &mut impl Write,
     text: &[u8],
     mantissas: &mut [i64],
     exponents: &mut [i32],
     faces: &mut [u32],
     cells: &mut [u32],
     room: usize,
-) {
+) -> io::Result<()> {
     let found = filling::read_flat(text, mantissas, exponents, faces, cells, room);
     let reply = found.reply;
     let zones = found.zones;
     let flat = found.flat;
-    print_reply(reply);
-    print_mantissas(mantissas);
-    print_exponents(exponents);
-    print_rows(b"f", faces, 8);
-    print_rows(b"c", cells, 2);
-    print_zones(&flat, zones);
+    print_reply(out, reply)?;
+    print_rows(out, "m", mantissas, 3)?;
+    print_rows(out, "e", exponents, 3)?;
+    print_rows(out, "f", faces, 8)?;
+    print_rows(out, "c", cells, 2)?;
+    print_zones(out, &flat, zones)
 }
 
 // Lends what the case's line says.
-fn lend(line: &[u8], text: &[u8]) {
+fn lend(out: &mut impl Write, line: &[u8], text: &[u8]) -> io::Result<()> {
     let mut words: [u32; 5] = [0; 5];
     words_of(line, &mut words);
     let m = least(words[0], NODE_WORDS);
@@ -64,44 +69,48 @@ fn lend(line: &[u8], text: &[u8]) {
     let mut faces: [u32; 192] = [7; 192];
     let mut cells: [u32; 48] = [7; 48];
     judge(
+        out,
         text,
         &mut mantissas[..m],
         &mut exponents[..e],
         &mut faces[..f],
         &mut cells[..c],
         room,
-    );
+    )
 }
 
 // The case whose line begins at `at`, if a line of %% stands behind it. Answers where the next case begins.
-fn one_case(s: &[u8], at: usize) -> usize
+fn one_case(out: &mut impl Write, s: &[u8], at: usize) -> io::Result<usize>
     requires { at < length s.now }
-    ensures { at < result }
+    ensures { IfOk result (λ next. at < next) }
 {
     let size = s.len();
     let line = line_end(s, at);
     if size <= line {
-        return size;
+        return Ok(size);
     }
     let start = line + 1;
     let end = text_end(s, start);
     if size <= end {
-        return size;
+        return Ok(size);
     }
-    io::write_all(STDOUT_FILENO, &s[at..start]);
-    lend(&s[at..line], &s[start..end]);
-    end + 1
+    out.write_all(&s[at..start])?;
+    lend(out, &s[at..line], &s[start..end])?;
+    Ok(end + 1)
 }
 
-fn run(s: &[u8]) {
+fn run(out: &mut impl Write, s: &[u8]) -> io::Result<()> {
     let mut at: usize = 0;
     while at < s.len() {
-        at = one_case(s, at);
+        at = one_case(out, s, at)?;
     }
+    Ok(())
 }
 
-fn main() {
-    let mut text: [u8; 65536] = [0; 65536];
-    let n = io::read_full(STDIN_FILENO, &mut text);
-    run(&text[..n]);
+fn main(rt: HostRuntime) -> io::Result<()> {
+    let mut out = BufWriter::new(rt.alloc(), io::writer(&rt))?;
+    let mut text = Vec::new(rt.alloc());
+    rt.reader().take(MOST).read_to_end(&mut text)?;
+    run(&mut out, &text)?;
+    out.flush()
 }

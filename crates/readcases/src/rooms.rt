@@ -5,14 +5,7 @@ use numbers::Whole;
 use tokens::{Cursor, Step, Token};
 
 fn is_word(k: Token) -> bool {
-    match k {
-        Token::Left => false,
-        Token::Right => false,
-        Token::Text => false,
-        Token::Word => true,
-        Token::Unclosed => false,
-        Token::End => false,
-    }
+    matches!(k, Token::Word)
 }
 
 // Keeps the word's number behind `count` others, if it is one.
@@ -48,12 +41,10 @@ fn keep(s: &[u8], t: Step, words: &mut [u32], count: usize) -> usize
 pub(crate) fn words_of(s: &[u8], words: &mut [u32]) {
     let mut c = Cursor::new();
     let mut count: usize = 0;
-    let mut i: usize = 0;
-    while i < s.len() {
+    for _ in 0..s.len() {
         let t = c.token(s);
         count = keep(s, t, words, count);
         c = t.next;
-        i += 1;
     }
 }
 
