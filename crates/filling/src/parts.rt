@@ -127,7 +127,8 @@ pub(crate) fn section_into(
     let id = value_at(s, at, Sort::SectionId);
     let v = id.value;
     let behind = id.next;
-    if v == 10 {
+    let is_nodes = v == 10;
+    if is_nodes {
         nodes_into(s, behind, d, z, mantissas, exponents, list);
         return;
     }

@@ -55,7 +55,8 @@ fn put_audit(
     match a {
         Audited::Refused(_) => put_clean(out, nodes, faces, cells),
         Audited::Done { total, bytes } => {
-            if total == 0 {
+            let is_clean = total == 0;
+            if is_clean {
                 put_clean(out, nodes, faces, cells)
             } else {
                 put_total(out, total, &list[..bytes])

@@ -106,7 +106,8 @@ pub fn locate(s: &[u8], room: Room) -> Located
     ensures { (shown result.reply ≡ shown (verdict (answer_of (room_all room) s.now))) × (result.places ≡ places_of (room_all room) s.now) }
 {
     let mut places: [u32; 64] = [0; 64];
-    if sizes::FILE_BYTES < s.len() {
+    let too_long = sizes::FILE_BYTES < s.len();
+    if too_long {
         let reply = Reply::Refused {
             why: Refusal::TooLong,
             section: 0,

@@ -20,9 +20,9 @@ pub returns-in-Refused : goal.returns-in-Refused
 returns-in-Refused c = clean_refused _ _ _ _ c.audit-a.ensures _ _ _ _ _ _ _ c.in-Refused.is c.put_clean.ensures
 
 -- src/printed.rt:71:1
-pub returns-then-total-eq0 : goal.returns-then-total-eq0
-returns-then-total-eq0 c = clean_done _ _ _ _ c.audit-a.ensures _ _ _ _ _ _ _ _ c.in-Done.is c.if-total-eq0.true c.put_clean-then-total-eq0.ensures
+pub returns-then-is_clean : goal.returns-then-is_clean
+returns-then-is_clean c = clean_done _ _ _ _ c.audit-a.ensures _ _ _ _ _ _ _ _ c.in-Done.is c.if-is_clean.true c.put_clean-then-is_clean.ensures
 
 -- src/printed.rt:71:1
-pub returns-else-total-eq0 : goal.returns-else-total-eq0
-returns-else-total-eq0 c = faulty_done _ _ _ _ c.audit-a.ensures _ _ _ _ _ _ _ _ c.in-Done.is c.if-total-eq0.false c.put_total.ensures
+pub returns-else-is_clean : goal.returns-else-is_clean
+returns-else-is_clean c = faulty_done _ _ _ _ c.audit-a.ensures _ _ _ _ _ _ _ _ c.in-Done.is c.if-is_clean.false c.put_total.ensures
