@@ -20,10 +20,10 @@ abbrev lent : List ℕ
 lent = 9 ∷ 9 ∷ []
 
 -- `copy_words`: every word stored at the first place
-copy-words :
+copy_words :
     ((κ : _) (a : _) (r : _) (x : _) → copied.Post κ a r x → a.0.now ≡ 1 ∷ 2 ∷ [] → a.1.0.now ≡ lent → x.1.0.now ≡ 1 ∷ 2 ∷ [])
     × (set (set lent 0 1) 0 2 ≡ 2 ∷ 9 ∷ [])
-copy-words = (λ κ a r x p words old. p ∙ rw (words, old), refl)
+copy_words = (λ κ a r x p words old. p ∙ rw (words, old), refl)
 
 abbrev refused : Shown
 refused = shown (Reply.Refused Refusal.Range 2 21)
@@ -40,7 +40,7 @@ answer_audit : (sets lent 0 (audit_words done) ≡ 3 ∷ 12 ∷ []) × (sets len
 answer_audit = (refl, refl)
 
 -- `answer_write`: the number of the refusal in place of the length
-answer-write :
+answer_write :
     (sets lent 0 (write_words (Writer.values_of (Written.Refused Write.Refusal.TextRoom))) ≡ 0 ∷ 9 ∷ [])
     × (sets lent 0 ((Writer.values_of (Written.Refused Write.Refusal.TextRoom)).number ∷ []) ≡ 19 ∷ 9 ∷ [])
-answer-write = (refl, refl)
+answer_write = (refl, refl)

@@ -19,13 +19,13 @@ pub(crate) fn print_list(out: &mut impl Write, list: &[u8]) -> io::Result<()> {
     Ok(())
 }
 
-fn print_answer(out: &mut impl Write, number: u32, total: u32, bytes: usize) -> io::Result<()> {
+fn print_answer(out: &mut impl Write, number: u64, total: u64, bytes: u64) -> io::Result<()> {
     write!(out, "{number} {total} {bytes}")
 }
 
 pub(crate) fn print_audited(out: &mut impl Write, a: Audited) -> io::Result<()> {
     match a {
-        Audited::Done { total, bytes } => print_answer(out, 0, total, bytes),
+        Audited::Done { total, bytes } => print_answer(out, 0, total as u64, bytes as u64),
         Audited::Refused(Refusal::Dimension) => print_answer(out, 15, 0, 0),
         Audited::Refused(Refusal::Totals) => print_answer(out, 16, 0, 0),
         Audited::Refused(Refusal::Counts) => print_answer(out, 17, 0, 0),

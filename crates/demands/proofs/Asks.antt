@@ -1,4 +1,4 @@
--- No call asks anything of what it is given: of `read`, which is proved by hand, as its clause says it; of the others as the check reads it. Assumes nothing.
+-- No call asks anything of what it is given: of `read` as its clause says it, of the others as the check reads it. Assumes nothing.
 use mathlib.Core.Path.{◌≡◌, refl}
 use seplogic.Ra.Ura.{Ura}
 use base.Logic.{SProp, emp}

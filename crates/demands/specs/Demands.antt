@@ -30,7 +30,7 @@ use Rattle.audit.specs.contracts.audit as audit
 use Rattle.audit.proofs.audit.Reads as audits
 
 -- ---- the calls: arguments a, answer r, and x, what is lent as it is at exit
--- `reader::read` takes the file, `a.0`, and is lent `takes κ a`; it leaves `leaves κ x`. `Post` is its contract (`Post-is`)
+-- `reader::read` takes the file, `a.0`, and is lent `takes κ a`; it leaves `leaves κ x`. `Post` is its contract (`post_is`)
 -- `audit::audit` takes the tables `given κ a`, and is lent counts and list; `audits.Post` is its contract
 abbrev pub given : (κ : Lfts 4) → Args audit.signature κ → Tables
 given κ a = tables a.0 a.1.0 a.1.1.0 a.1.1.1.0 a.1.1.1.1.0.now a.1.1.1.1.1.0.now

@@ -15,8 +15,8 @@ abbrev two : State
 two = after start (dim 2)
 
 -- `last_of`: a missing declaration called untiled
-last-of :
+last_of_lem :
     (last_of Token.End 5 two 1 5 ≡ Reply.Refused Refusal.Missing 1 5)
     × (verdict (ending true true (two.nodes.declared && two.faces.declared) (accepted two []) 1 5) ≡ Reply.Refused Refusal.Untiled 1 5)
 unfolding end_of
-last-of = (refl, refl)
+last_of_lem = (refl, refl)

@@ -30,7 +30,7 @@ unfolding is_in wrong_element any_cell_fault
 any_cell_fault_lem = (refl, refl)
 
 -- `bit_if`: always the lowest bit
-bit-if :
+bit_if :
     ((κ : _) (a : _) (r : _) (x : _) → bits.Post κ a r x → a.0 ≡ true → ◌≡◌ {A = ℕ} a.1.0 4 → ◌≡◌ {A = ℕ} r 4)
     × (1 * one true ≡ 1)
-bit-if = (λ κ a r x p passed four. p ∙ rw (passed, four), refl)
+bit_if = (λ κ a r x p passed four. p ∙ rw (passed, four), refl)

@@ -6,7 +6,7 @@ use Rattle.facts.specs.Text.{bytes}
 use Rattle.figures.specs.Figures.{figure, figures_on, figures}
 
 -- the last figure first; two figures at the least, a zero before the one
-figures-ten :
+figures_ten :
     (figures 10 0 ≡ bytes "0")
     × (figures 10 9 ≡ bytes "9")
     × (figures 10 10 ≡ bytes "10")
@@ -14,14 +14,14 @@ figures-ten :
     × (figure (10 % 10) ∷ figures 10 (10 / 10) ≡ bytes "01")
     × (figure (9 / 10) ∷ figures 10 9 ≡ bytes "09")
 unfolding figure figures_on figures
-figures-ten = (refl, refl, refl, refl, refl, refl)
+figures_ten = (refl, refl, refl, refl, refl, refl)
 
 -- two figures for ten, as in decimal
-figures-sixteen :
+figures_sixteen :
     (figures 16 0 ≡ bytes "0")
     × (figures 16 9 ≡ bytes "9")
     × (figures 16 10 ≡ bytes "a")
     × (figures 16 255 ≡ bytes "ff")
     × (figures 10 10 ≡ bytes "10")
 unfolding figure figures_on figures
-figures-sixteen = (refl, refl, refl, refl, refl)
+figures_sixteen = (refl, refl, refl, refl, refl)

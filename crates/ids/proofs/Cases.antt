@@ -14,8 +14,8 @@ use Rattle.steps.specs.Views.{num_view, whole_for}
 use Rattle.ids.specs.Ids.{figure_at}
 
 -- `id_at`: the two digits of an id swapped
-id-at :
+id_at :
     (number_by 2 (whole_for Sort.SectionId) Sort.SectionId (tokens_of (bytes "12")) ≡ got (record { value = 12; at = 0 }) [])
     × (num_view (bytes "12") (Num.Is (10 * figure_at (bytes "12") 1 + figure_at (bytes "12") 0) 0 2) ≡ got (record { value = 21; at = 0 }) [])
 unfolding class_of run_end run_at token_of token_from token_at tokens_in tokens_from digit_of digits_in whole_of word_of figure_at
-id-at = (refl, refl)
+id_at = (refl, refl)

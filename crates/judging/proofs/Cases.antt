@@ -45,15 +45,15 @@ unless : (test true Refusal.Range 7 (refused Refusal.Type 11) ≡ refused Refusa
 unless = (refl, refl)
 
 -- `decl_judged`: a second declaration taken
-decl-judged :
+decl_judged_lem :
     (decl_judged Kind.Cell (record { declared = true; total = 2 }) 0 Limit.Unlimited declares ≡ refused Refusal.Undeclared 5)
     × (decl_judged Kind.Cell (record { declared = false; total = 2 }) 0 Limit.Unlimited declares ≡ Judged.Fine)
 unfolding decl_range
-decl-judged = (refl, refl)
+decl_judged_lem = (refl, refl)
 
 -- `part_judged`: a range refused at the zone word
-part-judged :
+part_judged_lem :
     (part_judged Kind.Cell (record { declared = true; total = 2 }) 0 0 Limit.Unlimited regular true ≡ refused Refusal.Range 7)
     × (test (part_range 2 1 1 3) Refusal.Range regular.zone.at Judged.Fine ≡ refused Refusal.Range 5)
 unfolding part_range
-part-judged = (refl, refl)
+part_judged_lem = (refl, refl)

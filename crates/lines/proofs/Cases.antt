@@ -13,15 +13,15 @@ abbrev lent : List ℕ
 lent = bytes "................"
 
 -- `put_line`: the last two numbers exchanged
-put-line :
+put_line :
     (sets lent 0 (line (bytes "clean") (8 ∷ 12 ∷ 5 ∷ [])) ≡ bytes "clean 8 12 5\n...")
     × (sets lent 0 (line (bytes "clean") (8 ∷ 5 ∷ 12 ∷ [])) ≡ bytes "clean 8 5 12\n...")
 unfolding figures
-put-line = (refl, refl)
+put_line = (refl, refl)
 
 -- `put_total`: the index in the place of the count
-put-total :
+put_total :
     (sets lent 0 (fault_lines 1 (9 ∷ 0 ∷ 2 ∷ 0 ∷ 0 ∷ 4 ∷ [])) ≡ bytes "faults 1\n9 2 4\n.")
     × (sets lent 0 (line (bytes "faults") (1 ∷ []) ++ record_line (fault 9 2 2)) ≡ bytes "faults 1\n9 2 2\n.")
 unfolding from_big_endian extra_bytes figures record_lines
-put-total = (refl, refl)
+put_total = (refl, refl)

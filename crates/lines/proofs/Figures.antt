@@ -24,44 +24,44 @@ pub record Figuring (n v i : ℕ) (b : List ℕ) : Type 0 where
   pub small : v < 10 ^ suc i
   pub same : figures (suc i) v ++ drop (suc i) b ≡ decimal n
 
-drop-set-here : (b : List ℕ) (i v : ℕ) → i < length b → drop i (set b i v) ≡ v ∷ drop (suc i) b
-drop-set-here b i v h = drop-cons (set b i v) i 0 (omega (arith, length-set b i v)) ∙ ap (λ y. y ∷ drop (suc i) (set b i v)) (get_or-set_same b i v 0 h) ∙ ap (λ y. v ∷ y) (drop-set-lt (suc i) b i v (omega arith))
+drop_set_here : (b : List ℕ) (i v : ℕ) → i < length b → drop i (set b i v) ≡ v ∷ drop (suc i) b
+drop_set_here b i v h = drop-cons (set b i v) i 0 (omega (arith, length-set b i v)) ∙ ap (λ y. y ∷ drop (suc i) (set b i v)) (get_or-set_same b i v 0 h) ∙ ap (λ y. v ∷ y) (drop-set-lt (suc i) b i v (omega arith))
 
 module _ (n : ℕ) where
-  pub figuring-start : (b : List ℕ) → length b ≡ 20 → n < 2 ^ 64 → Figuring n n 19 b
-  figuring-start b h l =
+  pub figuring_start : (b : List ℕ) → length b ≡ 20 → n < 2 ^ 64 → Figuring n n 19 b
+  figuring_start b h l =
       record { size = h; low = omega arith; small = omega arith; same = ap (λ y. decimal n ++ y) (drop_of_length-le b {i = 20} (omega arith)) ∙ append-nil (decimal n) }
 
   module _ (v i : ℕ) (b : List ℕ) (g : Figuring n v i b) where
-    pub figuring-room : 10 ≤ v → 1 ≤ i
-    figuring-room h = by i g.small
+    pub figuring_room : 10 ≤ v → 1 ≤ i
+    figuring_room h = by i g.small
       where
         by : (j : ℕ) → v < 10 ^ suc j → 1 ≤ j
         by zero l = absurd (omega arith)
         by (suc j) l = omega arith
 
-    pub figuring-more : (f : ℕ) → f ≡ 48 + v % 10 → 10 ≤ v → Figuring n (v / 10) (i - 1) (set b i f)
-    figuring-more f e h =
-        let r = figuring-room h in
+    pub figuring_more : (f : ℕ) → f ≡ 48 + v % 10 → 10 ≤ v → Figuring n (v / 10) (i - 1) (set b i f)
+    figuring_more f e h =
+        let r = figuring_room h in
         let z : suc (i - 1) ≡ i = omega arith in
         record {
           size = length-set b i f ∙ g.size;
           low = omega (arith, g.low);
           small = (let p : 10 ^ suc i ≡ 10 ^ i * 10 = pow-suc 10 i in let q : v / 10 < 10 ^ i = omega (arith, g.small, p) in subst (λ y. v / 10 < 10 ^ y) (sym z) q);
-          same = ap (λ y. figures y (v / 10) ++ drop y (set b i f)) z ∙ ap (λ y. figures i (v / 10) ++ y) (drop-set-here b i f (omega (arith, g.low, g.size)))
+          same = ap (λ y. figures y (v / 10) ++ drop y (set b i f)) z ∙ ap (λ y. figures i (v / 10) ++ y) (drop_set_here b i f (omega (arith, g.low, g.size)))
               ∙ ap (λ y. figures i (v / 10) ++ (y ∷ drop (suc i) b)) e ∙ sym (append_assoc (figures i (v / 10)) ((48 + v % 10) ∷ []) (drop (suc i) b))
               ∙ ap (λ y. y ++ drop (suc i) b) (sym (figures_more i v h)) ∙ g.same;
         }
 
-    pub figuring-kept : (f : ℕ) → length (set b i f) ≡ 20
-    figuring-kept f = length-set b i f ∙ g.size
+    pub figuring_kept : (f : ℕ) → length (set b i f) ≡ 20
+    figuring_kept f = length-set b i f ∙ g.size
 
-    pub figuring-end : (f : ℕ) → f ≡ 48 + v → v < 10 → drop i (set b i f) ≡ decimal n
-    figuring-end f e h =
-        drop-set-here b i f (omega (arith, g.low, g.size)) ∙ ap (λ y. y ∷ drop (suc i) b) e ∙ ap (λ y. y ++ drop (suc i) b) (sym (figures_one i v h)) ∙ g.same
+    pub figuring_end : (f : ℕ) → f ≡ 48 + v → v < 10 → drop i (set b i f) ≡ decimal n
+    figuring_end f e h =
+        drop_set_here b i f (omega (arith, g.low, g.size)) ∙ ap (λ y. y ∷ drop (suc i) b) e ∙ ap (λ y. y ++ drop (suc i) b) (sym (figures_one i v h)) ∙ g.same
 
 -- the part of the array that has the figures
-pub wrote-figures : (old : List ℕ) (at : ℕ) (b : List ℕ) (i n : ℕ) (new : List ℕ) (r : ℕ) → length b ≡ 20 → drop i b ≡ decimal n
+pub wrote_figures : (old : List ℕ) (at : ℕ) (b : List ℕ) (i n : ℕ) (new : List ℕ) (r : ℕ) → length b ≡ 20 → drop i b ≡ decimal n
     → Wrote old at (take (20 - i) (drop i b)) new r → Wrote old at (decimal n) new r
-wrote-figures old at b i n new r h e w =
+wrote_figures old at b i n new r h e w =
     subst (λ y. Wrote old at y new r) (take_all (20 - i) (drop i b) (omega (arith, length-drop i b, h)) ∙ e) w

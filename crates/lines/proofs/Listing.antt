@@ -14,7 +14,7 @@ use Rattle.records.specs.declared.Fault.{Fault}
 use Rattle.records.specs.Record.{narrow, has_place, has_count, extra_bytes, size_of, read_back}
 use Rattle.lines.specs.Writing.{Wrote, decimal, behind}
 use Rattle.lines.specs.Listed.{extras, record_line, record_lines}
-use Rattle.lines.proofs.Writing.{wrote_none, wrote-more, wrote_kept, wrote-within}
+use Rattle.lines.proofs.Writing.{wrote_none, wrote_more, wrote_kept, wrote_within}
 
 -- ---- one record
 pub fault_is : (list : List ℕ) (p kind index extra bytes : ℕ) → kind ≡ from_big_endian (take 1 (drop p list)) → index ≡ from_big_endian (take 2 (drop (p + 1) list))
@@ -42,10 +42,10 @@ extras_one f n e z = let q : eqb (extra_bytes narrow f.kind) 0 ≡ false = ne_eq
 
 module _ (old : List ℕ) (at : ℕ) (f : Fault) (mid : List ℕ) (c : ℕ) (w : Wrote old at (decimal f.kind) mid c) (n : ℕ) (e : n ≡ extra_bytes narrow f.kind) where
   pub fault_short : n ≡ 0 → (new : List ℕ) (r : ℕ) → Wrote mid c (behind (f.index ∷ [])) new r → Wrote old at (record_line f) new r
-  fault_short z new r v = wrote-more old at (decimal f.kind) mid c (behind (f.index ∷ extras f)) new r w (subst (λ y. Wrote mid c y new r) (extras_none f n e z) v)
+  fault_short z new r v = wrote_more old at (decimal f.kind) mid c (behind (f.index ∷ extras f)) new r w (subst (λ y. Wrote mid c y new r) (extras_none f n e z) v)
 
   pub fault_long : (n ≡ 0 → ⊥) → (new : List ℕ) (r : ℕ) → Wrote mid c (behind (f.index ∷ f.extra ∷ [])) new r → Wrote old at (record_line f) new r
-  fault_long z new r v = wrote-more old at (decimal f.kind) mid c (behind (f.index ∷ extras f)) new r w (subst (λ y. Wrote mid c y new r) (extras_one f n e z) v)
+  fault_long z new r v = wrote_more old at (decimal f.kind) mid c (behind (f.index ∷ extras f)) new r w (subst (λ y. Wrote mid c y new r) (extras_one f n e z) v)
 
 -- ---- all of them
 pub lines_over : (n : ℕ) → record_lines n [] ≡ []
@@ -95,9 +95,9 @@ module _ (list old : List ℕ) (at : ℕ) where
         by zero l s = absurd (omega arith)
         by (suc k) l s =
             record {
-              place = wrote-within cur c (record_line f) mid m w;
+              place = wrote_within cur c (record_line f) mid m w;
               kept = wrote_kept cur c (record_line f) mid m w ∙ g.kept;
               fuel = k;
               enough = omega arith;
-              same = λ new r v. s new r (subst (λ y. Wrote cur c y new r) (sym (onward k)) (wrote-more cur c (record_line f) mid m (record_lines k (drop (p + 3 + n) list)) new r w v));
+              same = λ new r v. s new r (subst (λ y. Wrote cur c y new r) (sym (onward k)) (wrote_more cur c (record_line f) mid m (record_lines k (drop (p + 3 + n) list)) new r w v));
             }

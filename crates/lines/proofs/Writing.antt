@@ -19,11 +19,11 @@ wrote_none old at h = let z : at + 0 ≡ at = omega arith in record { laid = ref
 pub wrote_kept : (old : List ℕ) (at : ℕ) (bytes new : List ℕ) (r : ℕ) → Wrote old at bytes new r → length new ≡ length old
 wrote_kept old at bytes new r w = ap length w.laid ∙ length-sets old at bytes
 
-pub wrote-within : (old : List ℕ) (at : ℕ) (bytes new : List ℕ) (r : ℕ) → Wrote old at bytes new r → r ≤ length new
-wrote-within old at bytes new r w = omega (arith, w.place, min-le_right (at + length bytes) (length old), wrote_kept old at bytes new r w)
+pub wrote_within : (old : List ℕ) (at : ℕ) (bytes new : List ℕ) (r : ℕ) → Wrote old at bytes new r → r ≤ length new
+wrote_within old at bytes new r w = omega (arith, w.place, min-le_right (at + length bytes) (length old), wrote_kept old at bytes new r w)
 
-pub wrote-more : (old : List ℕ) (at : ℕ) (xs mid : List ℕ) (m : ℕ) (ys new : List ℕ) (r : ℕ) → Wrote old at xs mid m → Wrote mid m ys new r → Wrote old at (xs ++ ys) new r
-wrote-more old at xs mid m ys new r v w = split (leb (at + length xs) (length old)) (λ b. fits (leb-true _ _ b)) (λ b. over (leb-false _ _ b))
+pub wrote_more : (old : List ℕ) (at : ℕ) (xs mid : List ℕ) (m : ℕ) (ys new : List ℕ) (r : ℕ) → Wrote old at xs mid m → Wrote mid m ys new r → Wrote old at (xs ++ ys) new r
+wrote_more old at xs mid m ys new r v w = split (leb (at + length xs) (length old)) (λ b. fits (leb-true _ _ b)) (λ b. over (leb-false _ _ b))
   where
     kept : length mid ≡ length old
     kept = wrote_kept old at xs mid m v
@@ -51,11 +51,11 @@ wrote-more old at xs mid m ys new r v w = split (leb (at + length xs) (length ol
           place = w.place ∙ a ∙ sym b;
         }
 
-pub wrote-byte : (old : List ℕ) (at b : ℕ) → at < length old → Wrote old at (b ∷ []) (set old at b) (at + 1)
-wrote-byte old at b h = record { laid = refl; place = sym (min-eq_left (omega arith)) }
+pub wrote_byte : (old : List ℕ) (at b : ℕ) → at < length old → Wrote old at (b ∷ []) (set old at b) (at + 1)
+wrote_byte old at b h = record { laid = refl; place = sym (min-eq_left (omega arith)) }
 
-pub wrote-full : (old : List ℕ) (at b : ℕ) → at ≤ length old → length old ≤ at → Wrote old at (b ∷ []) old at
-wrote-full old at b h l =
+pub wrote_full : (old : List ℕ) (at b : ℕ) → at ≤ length old → length old ≤ at → Wrote old at (b ∷ []) old at
+wrote_full old at b h l =
     record { laid = sym (set_out old at b l); place = (let e : at ≡ length old = omega arith in e ∙ sym (min-eq_right (omega arith))) }
 
 -- ---- the bytes of a text, one after the other: what is left to write
@@ -66,20 +66,20 @@ pub record Copying (text old : List ℕ) (at : ℕ) (i c : ℕ) (cur : List ℕ)
   pub same : (new : List ℕ) (r : ℕ) → Wrote cur c (drop i text) new r → Wrote old at text new r
 
 module _ (text old : List ℕ) (at : ℕ) where
-  pub copying-start : at ≤ length old → Copying text old at 0 at old
-  copying-start h = record { within = omega arith; place = h; kept = refl; same = λ new r w. w }
+  pub copying_start : at ≤ length old → Copying text old at 0 at old
+  copying_start h = record { within = omega arith; place = h; kept = refl; same = λ new r w. w }
 
   module _ (i c : ℕ) (cur : List ℕ) (g : Copying text old at i c cur) where
-    pub copying-end : length text ≤ i → Wrote old at text cur c
-    copying-end h =
+    pub copying_end : length text ≤ i → Wrote old at text cur c
+    copying_end h =
         let e : drop i text ≡ [] = drop_of_length-le text {i = i} h in
         g.same cur c (subst (λ y. Wrote cur c y cur c) (sym e) (wrote_none cur c g.place))
 
-    pub copying-more : (mid : List ℕ) (m : ℕ) → i < length text → Wrote cur c (get_or text i 0 ∷ []) mid m → Copying text old at (i + 1) m mid
-    copying-more mid m h w =
+    pub copying_more : (mid : List ℕ) (m : ℕ) → i < length text → Wrote cur c (get_or text i 0 ∷ []) mid m → Copying text old at (i + 1) m mid
+    copying_more mid m h w =
         record {
           within = omega arith;
-          place = wrote-within cur c (get_or text i 0 ∷ []) mid m w;
+          place = wrote_within cur c (get_or text i 0 ∷ []) mid m w;
           kept = wrote_kept cur c (get_or text i 0 ∷ []) mid m w ∙ g.kept;
-          same = λ new r v. g.same new r (subst (λ y. Wrote cur c y new r) (sym (drop-cons text i 0 h)) (wrote-more cur c (get_or text i 0 ∷ []) mid m (drop (suc i) text) new r w (subst (λ y. Wrote mid m (drop y text) new r) (add-one i) v)));
+          same = λ new r v. g.same new r (subst (λ y. Wrote cur c y new r) (sym (drop-cons text i 0 h)) (wrote_more cur c (get_or text i 0 ∷ []) mid m (drop (suc i) text) new r w (subst (λ y. Wrote mid m (drop y text) new r) (add-one i) v)));
         }

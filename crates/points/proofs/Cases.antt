@@ -27,8 +27,8 @@ abbrev text : List Tok
 text = tokens_of (bytes "7 20")
 
 -- `put_points`: the third pair of two dimensions left as it was
-put-points :
+put_points :
     (set_pairs lent 0 (points_taken 4 (coordinates_in 2) 1 text) ≡ both (7 ∷ 2 ∷ 0 ∷ []) (0 ∷ 1 ∷ 0 ∷ []))
     × (set_pairs lent 0 (pairs_taken 4 2 text).thing ≡ both (7 ∷ 2 ∷ 9 ∷ []) (0 ∷ 1 ∷ 9 ∷ []))
 unfolding class_of run_end run_at token_of token_from token_at tokens_in tokens_from digit_of digits_in sign_in fraction_in power_of reading_of cut in_range fitted keep coordinate_of word_of many pair_taken points_taken
-put-points = (refl, refl)
+put_points = (refl, refl)

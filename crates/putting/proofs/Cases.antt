@@ -27,34 +27,34 @@ put_byte :
 put_byte = (λ κ a r x p old at. (p.place ∙ rw at, p.laid ∙ rw (old, at)), refl)
 
 -- `put_text`: a text that has not room for all of it left out
-put-text :
+put_text :
     ((κ : _) (a : _) (r : _) (x : _) → text.Post κ a r x → a.0.now ≡ lent → ◌≡◌ {A = ℕ} a.1.0 6 → a.1.1.0.now ≡ bytes "mesh" → ◌≡◌ {A = ℕ} r 10 × (x.0.now ≡ bytes "......me"))
     × (sets lent 6 [] ≡ bytes "........")
-put-text = (λ κ a r x p old at t. (p.place ∙ rw (at, t), p.laid ∙ rw (old, at, t)), refl)
+put_text = (λ κ a r x p old at t. (p.place ∙ rw (at, t), p.laid ∙ rw (old, at, t)), refl)
 
 -- `put_decimal`: the last figures kept where the first ones belong
-put-decimal :
+put_decimal :
     ((κ : _) (a : _) (r : _) (x : _) → decimal.Post κ a r x → a.0.now ≡ lent → ◌≡◌ {A = ℕ} a.1.0 6 → ◌≡◌ {A = ℕ} a.1.1.0 125
     → ◌≡◌ {A = ℕ} r 9 × (x.0.now ≡ bytes "......12"))
     × (sets lent 6 (drop 1 (figures 10 125)) ≡ bytes "......25")
 unfolding figure figures_on figures
-put-decimal = (λ κ a r x p old at n. (p.place ∙ rw (at, n), p.laid ∙ rw (old, at, n)), refl)
+put_decimal = (λ κ a r x p old at n. (p.place ∙ rw (at, n), p.laid ∙ rw (old, at, n)), refl)
 
 -- `put_hex`: in decimal
-put-hex :
+put_hex :
     ((κ : _) (a : _) (r : _) (x : _) → hex.Post κ a r x → a.0.now ≡ lent → ◌≡◌ {A = ℕ} a.1.0 2 → ◌≡◌ {A = ℕ} a.1.1.0 125
     → ◌≡◌ {A = ℕ} r 4 × (x.0.now ≡ bytes "..7d...."))
     × (sets lent 2 (figures 10 125) ≡ bytes "..125...")
 unfolding figure figures_on figures
-put-hex = (λ κ a r x p old at n. (p.place ∙ rw (at, n), p.laid ∙ rw (old, at, n)), refl)
+put_hex = (λ κ a r x p old at n. (p.place ∙ rw (at, n), p.laid ∙ rw (old, at, n)), refl)
 
 -- `lay_word`: a blank more counted
-lay-word :
+lay_word :
     ((κ : _) (a : _) (r : _) (x : _) → word.Post κ a r x → a.0.now ≡ lent → ◌≡◌ {A = ℕ} a.1.0 2 → ◌≡◌ {A = ℕ} a.1.1.0 40 → ◌≡◌ {A = ℕ} a.1.1.1.0 171
     → ◌≡◌ {A = ℕ} r 5 × (x.0.now ≡ bytes "..(ab..."))
     × (min (2 + length (40 ∷ figures 16 171) + 1) most ≡ 6)
 unfolding figure figures_on figures
-lay-word = (
+lay_word = (
   λ κ a r x p old at lead n.
       let e : ◌≡◌ {A = ℕ} r 5 = p.place ∙ (λ i. min (at i + suc (length (figures 16 (n i)))) most) in
       (e, p.laid (omega (arith, e, p.place, ap length old)) ∙ (λ i. sets (old i) (at i) (lead i ∷ figures 16 (n i)))),
@@ -62,12 +62,12 @@ lay-word = (
 )
 
 -- `lay_signed`: the sign behind the figures
-lay-signed :
+lay_signed :
     ((κ : _) (a : _) (r : _) (x : _) → signed.Post κ a r x → a.0.now ≡ lent → ◌≡◌ {A = ℕ} a.1.0 1 → ◌≡◌ {A = ℕ} a.1.1.0 101 → a.1.1.1.0 ≡ negsuc 24
     → ◌≡◌ {A = ℕ} r 5 × (x.0.now ≡ bytes ".e-25..."))
     × (sets lent 1 (101 ∷ (figures 10 25 ++ (45 ∷ []))) ≡ bytes ".e25-...")
 unfolding figure figures_on figures decimal_text
-lay-signed = (
+lay_signed = (
   λ κ a r x p old at lead z.
       let e : ◌≡◌ {A = ℕ} r 5 = p.place ∙ (λ i. min (at i + length (lead i ∷ decimal_text (z i))) most) in
       (e, p.laid (omega (arith, e, p.place, ap length old)) ∙ (λ i. sets (old i) (at i) (lead i ∷ decimal_text (z i)))),

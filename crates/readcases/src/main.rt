@@ -48,10 +48,10 @@ fn judge(
     let zones = found.zones;
     let flat = found.flat;
     print_reply(out, reply)?;
-    print_rows(out, "m", mantissas, 3)?;
-    print_rows(out, "e", exponents, 3)?;
-    print_rows(out, "f", faces, 8)?;
-    print_rows(out, "c", cells, 2)?;
+    print_rows(out, b"m", mantissas, 3)?;
+    print_rows(out, b"e", exponents, 3)?;
+    print_rows(out, b"f", faces, 8)?;
+    print_rows(out, b"c", cells, 2)?;
     print_zones(out, &flat, zones)
 }
 

@@ -9,8 +9,8 @@ use std::io::Write;
 const ZONE_WORDS: usize = 6;
 
 // A row is a line, its name before its words.
-fn print_row(out: &mut impl Write, name: &str, row: &[impl Display]) -> io::Result<()> {
-    write!(out, "{name}")?;
+fn print_row(out: &mut impl Write, name: &[u8], row: &[impl Display]) -> io::Result<()> {
+    out.write_all(name)?;
     for word in row {
         write!(out, " {word}")?;
     }
@@ -20,7 +20,7 @@ fn print_row(out: &mut impl Write, name: &str, row: &[impl Display]) -> io::Resu
 // The last row is short where the words end within it.
 pub(crate) fn print_rows(
     out: &mut impl Write,
-    name: &str,
+    name: &[u8],
     words: &[impl Display],
     width: usize,
 ) -> io::Result<()>
@@ -40,10 +40,10 @@ fn holds(row: &[u32]) -> bool {
 // A record, and a row that is none and should be all 0.
 fn print_zone(out: &mut impl Write, row: &[u32], is_record: bool) -> io::Result<()> {
     if is_record {
-        return print_rows(out, "z", row, ZONE_WORDS);
+        return print_rows(out, b"z", row, ZONE_WORDS);
     }
     if holds(row) {
-        print_rows(out, "stray", row, ZONE_WORDS)?;
+        print_rows(out, b"stray", row, ZONE_WORDS)?;
     }
     Ok(())
 }

@@ -16,7 +16,7 @@ use Rattle.layout.specs.Replies.{shown}
 use Rattle.layout.proofs.Shown.{outcome_only}
 use Rattle.reader.specs.contracts.lent.read as read
 
--- of a function that is proved by hand the check makes no reading of the contract: it is written here, and `post_is` says that it is the contract
+-- the contract, read out of its clause: `post_is` says that it is the contract
 abbrev pub leaves : (κ : Lfts 6) → AtExit read.ended κ → Lent
 leaves κ x =
     record { mantissas = x.1.0.now; exponents = x.1.1.0.now; faces = x.1.1.1.0.now; cells = x.1.1.1.1.0.now; zones = x.1.1.1.1.1.0.now }

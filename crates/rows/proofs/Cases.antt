@@ -23,11 +23,11 @@ abbrev read : Facet
 read = facet_at text 2 0
 
 -- `put_rows`: the right cell in the place of the left
-put-rows :
+put_rows :
     (sets (replicate 8 9) 0 (rows_at text (Form.Facing 2) 3 1 0) ≡ 2 ∷ 1 ∷ 2 ∷ 0 ∷ 0 ∷ 10 ∷ 0 ∷ 3 ∷ [])
     × (sets (replicate 8 9) 0 (face_row places 3 (record { corners = read.corners; right = read.left; left = read.right })) ≡ 2 ∷ 1 ∷ 2 ∷ 0 ∷ 0 ∷ 0 ∷ 10 ∷ 3 ∷ [])
 unfolding class_of run_end run_at digit_of digits_in hexes_of known_of many corners_of rows_at
-put-rows = (refl, refl)
+put_rows = (refl, refl)
 
 -- `put_same`: the element in the place of the type
 put_same : (sets (replicate 4 9) 0 (same_rows 3 1 2) ≡ 3 ∷ 1 ∷ 3 ∷ 1 ∷ []) × (sets (replicate 4 9) 0 (same_rows 3 3 2) ≡ 3 ∷ 3 ∷ 3 ∷ 3 ∷ [])

@@ -19,8 +19,8 @@ abbrev header : Header
 header = record { zone = 0; first = 1; last = 2; type = 0; fifth = absent }
 
 -- `section_at`: faces read as cells
-section-at :
+section_at :
     (section_of 13 room start (tokens_of (bytes "13 (0 1 2 0))")) ≡ got (decl face header) [])
     × (kind_of 13 room cell start (tokens_from (bytes "13 (0 1 2 0))") 2) ≡ got (decl cell header) [])
 unfolding class_of run_end run_at token_of token_from token_at tokens_in tokens_from digit_of digits_in whole_of left_of right_of word_of decl_range fifth_of head_of decl_of kind_of section_of
-section-at = (refl, refl)
+section_at = (refl, refl)

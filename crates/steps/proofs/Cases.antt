@@ -37,8 +37,8 @@ unfolding class_of run_end run_at token_of token_from token_at tokens_in tokens_
 number_at = (refl, refl)
 
 -- `pair_at`: the blanks before a coordinate read with it
-pair-at :
+pair_at :
     (pair_word 2 (tokens_of (bytes " 5")) ≡ got (record { mantissa = pos 5; exponent = pos 0 }) [])
     × (paired 2 (coordinate_of (bytes " 5")) 1 (bytes " 5") [] ≡ bad Refusal.Number 1)
 unfolding class_of run_end run_at token_of token_from token_at tokens_in tokens_from digit_of digits_in bad_at sign_in fraction_in power_of reading_of cut in_range fitted keep coordinate_of word_of
-pair-at = (refl, refl)
+pair_at = (refl, refl)

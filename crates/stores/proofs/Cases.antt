@@ -23,13 +23,13 @@ store :
 store = (λ κ a r x p old at new. p ∙ rw (old, at, new), refl)
 
 -- `store_mantissa`: a number behind the table moved to its last place
-store-mantissa :
+store_mantissa :
     ((κ : _) (a : _) (r : _) (x : _) → mantissa.Post κ a r x → a.0.now ≡ numbers → ◌≡◌ {A = ℕ} a.1.0 2 → x.0.now ≡ numbers)
     × (set numbers 1 (pos 7) ≡ pos 1 ∷ pos 7 ∷ [])
-store-mantissa = (λ κ a r x p old at. p ∙ rw (old, at), refl)
+store_mantissa = (λ κ a r x p old at. p ∙ rw (old, at), refl)
 
 -- `store_exponent`: stored only at a place below 0, which none is
-store-exponent :
+store_exponent :
     ((κ : _) (a : _) (r : _) (x : _) → exponent.Post κ a r x → a.0.now ≡ numbers → ◌≡◌ {A = ℕ} a.1.0 1 → a.1.1.0 ≡ pos 7 → x.0.now ≡ pos 1 ∷ pos 7 ∷ [])
     × (elim (ltb 1 0) [ true ↦ set numbers 1 (pos 7) | false ↦ numbers ] ≡ numbers)
-store-exponent = (λ κ a r x p old at new. p ∙ rw (old, at, new), refl)
+store_exponent = (λ κ a r x p old at new. p ∙ rw (old, at, new), refl)

@@ -44,7 +44,7 @@ out_only r s x y e = (values_only r s (ap (λ (o : Out). o.answer) e), ap (λ (o
 pub write_flat_only : OnlyLeft (λ κ x. x.1.1.1.1.1.1.1.1.1.0.now) flat_reads.Post
 write_flat_only κ a r r' x x' p q = out_only r r' _ _ (p ∙ sym q)
 
--- of a function that is proved by hand the check makes no reading of the contract: it is written here, and `post_is` says that it is the contract
+-- the contract, read out of its clause: `post_is` says that it is the contract
 abbrev pub leaves : (κ : Lfts 6) → AtExit write.ended κ → List ℕ
 leaves κ x = x.1.1.1.1.1.1.1.1.1.0.now
 
