@@ -30,7 +30,8 @@ fn sides_of(element: u32) -> u32
     if element < 4 {
         return 4;
     }
-    if element == 4 { 6 } else { 5 }
+    let has_six = element == 4;
+    if has_six { 6 } else { 5 }
 }
 
 fn wrong_sides(cell: Cell, count: u32) -> bool

@@ -101,8 +101,9 @@ pub fn put(list: &mut [u8], pen: Pen, f: Fault) -> Pen
     let live = pen.live;
     let size = EXTRA_AT + extra_bytes(f.kind);
     let room = room_behind(list.len(), at);
+    let fits = size <= room;
     if live {
-        if size <= room {
+        if fits {
             lay_record(&mut list[at..], f);
             let next = at + size;
             return Pen {

@@ -49,7 +49,8 @@ pub(crate) fn write_some(
 ) -> Written
     ensures { ◌≡◌ {A = Out} (out (values_of result) text.new) (some_of dimension nodes faces cells mantissas.now exponents.now facerows.now cellrows.now flat n text.old) }
 {
-    if sizes::ZONES < n {
+    let too_many = sizes::ZONES < n;
+    if too_many {
         return Written::Refused(Refusal::Unwritable);
     }
     let end = 6 * n;

@@ -10,11 +10,11 @@ use Rattle.records.proofs.put.Goals as goal
 pub overflow_add-size : goal.overflow_add-size
 overflow_add-size c = omega (arith, c.extra_bytes-size.ensures, extra_bytes_most narrow c.args.f.kind)
 
-pub returns-then-size-room : goal.returns-then-size-room
-returns-then-size-room c = put_fits _ _ _ _ _ c.if-live.true c.extra_bytes-size.ensures (search rules) c.lay_record.ensures
+pub returns-then-fits : goal.returns-then-fits
+returns-then-fits c = put_fits _ _ _ _ _ c.if-live.true c.extra_bytes-size.ensures (search rules) c.lay_record.ensures
 
-pub returns-else-size-room : goal.returns-else-size-room
-returns-else-size-room c = step_full narrow _ _ _ c.if-live.true (search rules)
+pub returns-else-fits : goal.returns-else-fits
+returns-else-fits c = step_full narrow _ _ _ c.if-live.true (search rules)
 
 pub returns-else-live : goal.returns-else-live
 returns-else-live c = step_shut narrow _ _ _ c.if-live.false
