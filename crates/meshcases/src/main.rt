@@ -29,7 +29,7 @@ fn print_mesh(alloc: Global, out: &mut impl Write, file: &mut impl Read) -> io::
     let mut text = Vec::with_capacity(alloc, MOST)?;
     file.by_ref().take(MOST as u64).read_to_end(&mut text)?;
     if goes_on(file)? {
-        return writeln!(out, "input over {MOST}");
+        return out.write_all(b"input over 65536\n");
     }
     print_report(out, &text)
 }

@@ -1,22 +1,31 @@
 // The report program: reads a mesh from standard input and prints what reading and auditing it answer.
 #![tactic(auto)]
 
+ghost use Rattle.std.specs.Prelude.{◌≤◌, length, IfOk, IfSome};
+
 use std::io;
 use std::io::Read;
 
-// No report is made of input over this many bytes.
-const MOST: usize = 65536;
-
-// Whether the input goes on behind the bytes that were read.
-fn goes_on(input: &mut impl Read) -> io::Result<bool> {
-    let next = input.bytes().next().transpose()?;
-    Ok(next.is_some())
+// Reads until the buffer is full or the input ends, and answers how many bytes there are.
+fn read_full(input: &mut impl Read, text: &mut [u8]) -> io::Result<usize>
+    ensures { IfOk result (λ n. n ≤ length text.new) }
+{
+    let mut n: usize = 0;
+    while n < text.len() {
+        let got = input.read(&mut text[n..])?;
+        if got == 0 {
+            return Ok(n);
+        }
+        n += got;
+    }
+    Ok(n)
 }
 
-// Reads as many bytes as a report is made of, and answers whether there are more.
-fn read_text(input: &mut impl Read, text: &mut Vec<u8>) -> io::Result<bool> {
-    input.by_ref().take(MOST as u64).read_to_end(text)?;
-    goes_on(input)
+// Whether the input goes on behind the buffer.
+fn goes_on(input: &mut impl Read) -> io::Result<bool> {
+    let mut more: [u8; 1] = [0; 1];
+    let n = read_full(input, &mut more)?;
+    Ok(0 < n)
 }
 
 fn print_report(rt: &impl Print, text: &[u8]) -> io::Result<()> {
@@ -28,12 +37,26 @@ fn print_report(rt: &impl Print, text: &[u8]) -> io::Result<()> {
     Ok(())
 }
 
+// How many bytes the buffer holds of the input, or nothing where the input is longer.
+fn read_text(input: &mut impl Read, text: &mut [u8]) -> io::Result<Option<usize>>
+    ensures { IfOk result (λ held. IfSome held (λ n. n ≤ length text.new)) }
+{
+    let n = read_full(input, text)?;
+    if n < text.len() {
+        return Ok(Some(n));
+    }
+    if goes_on(input)? {
+        return Ok(None);
+    }
+    Ok(Some(n))
+}
+
 // Input that fails gets no report: what was read would else be taken for the whole.
 fn main(rt: HostRuntime) -> io::Result<()> {
-    let mut text = Vec::with_capacity(rt.alloc(), MOST)?;
+    let mut text: [u8; 65536] = [0; 65536];
     match read_text(&mut rt.reader(), &mut text) {
-        Ok(false) => print_report(&rt, &text),
-        Ok(true) => println!(rt; "input over {MOST}"),
+        Ok(Some(n)) => print_report(&rt, &text[..n]),
+        Ok(None) => rt.write_all(b"input over 65536\n"),
         Err(_) => eprintln!(rt; "meshreport: standard input can't be read"),
     }
 }

@@ -96,7 +96,7 @@ fn put_input(alloc: Global, out: &mut impl Write, input: &mut impl Read) -> io::
     let mut text = Vec::with_capacity(alloc, MOST)?;
     input.by_ref().take(MOST as u64).read_to_end(&mut text)?;
     if is_over(input)? {
-        return writeln!(out, "input over {MOST}");
+        return out.write_all(b"input over 65536\n");
     }
     put_tokens(out, &text)
 }
