@@ -1,4 +1,3 @@
-pub mod Copying
 pub mod Said
 pub mod Only
 mod Cases

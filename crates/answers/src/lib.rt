@@ -3,4 +3,4 @@
 
 mod answers;
 
-pub use answers::{answer_audit, answer_read, answer_write, copy_words};
+pub use answers::{answer_audit, answer_read, answer_write};

@@ -100,6 +100,6 @@ cell_quiet frame rows counts c cells cell h e none =
 
 -- the count of the cell of number c + 1 is the one at c
 pub cell_visited : (frame : Frame) (rows counts : List ℕ) (c : ℕ) {old new : List ℕ} {s r : Stand} {d : ℕ}
-    → Visited old s (faults_of_cell frame (c + 1) (cell_at rows (c + 1 - 1)) (get_or counts c 0)) d new r
+    → Visited old s (faults_of_cell frame (c + 1) (cell_at rows c) (get_or counts c 0)) d new r
     → Visited old s (cell_faults frame rows (λ i. get_or counts (i - 1) 0) (c + 1)) d new r
-cell_visited frame rows counts c v = let z : c + 1 - 1 ≡ c = omega arith in rw z (rw z at v)
+cell_visited frame rows counts c v = let z : c + 1 - 1 ≡ c = omega arith in rw z v

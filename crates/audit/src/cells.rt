@@ -11,11 +11,12 @@ use super::Stand;
 use super::visits::visit;
 use faults::Frame;
 use mesh::Cell;
+use records::Fault;
 
 fn extra_of(kind: u32, count: u32) -> u32
     ensures { result ≡ cell_extra count kind }
 {
-    if kind == 9 { count } else { 0 }
+    if kind == records::COUNTED { count } else { 0 }
 }
 
 // The cell row at c, counted from 0. The caller knows that the row is there, so nothing is asked.
@@ -39,16 +40,13 @@ fn sound_cells(frame: Frame, rows: &[u32], counts: &[u32]) -> usize
     ensures { SoundCells frame rows.now counts.now result }
 {
     let cells = frame.cells as usize;
-    let mut c: usize = 0;
-    while c < cells {
+    for c in 0..cells {
         let cell = cell_of(rows, c);
-        let count = counts[c];
-        if faults::any_cell_fault(frame.dim, cell, count) {
+        if faults::any_cell_fault(frame.dim, cell, counts[c]) {
             return c;
         }
-        c += 1;
     }
-    c
+    cells
 }
 
 pub(crate) fn audit_cells(
@@ -63,20 +61,20 @@ pub(crate) fn audit_cells(
 {
     let cells = frame.cells as usize;
     let mut s = start;
-    let mut c = sound_cells(frame, rows, counts);
-    'cells: while c < cells {
+    let sound = sound_cells(frame, rows, counts);
+    'cells: for c in sound..cells {
         let cell = cell_of(rows, c);
         let count = counts[c];
-        c += 1;
-        let number = c as u32;
+        let number = (c + 1) as u32;
         let mut marks = faults::cell_marks(frame, cell, count);
-        let mut kind: u32 = 8;
-        'kinds: while 0 < marks {
-            let bit = marks % 2;
-            marks = marks / 2;
-            let extra = extra_of(kind, count);
-            s = visit(bit, number, kind, extra, list, s);
-            kind += 1;
+        'kinds: for kind in 8..10 {
+            let fault = Fault {
+                kind,
+                index: number,
+                extra: extra_of(kind, count),
+            };
+            s = visit(marks % 2, fault, list, s);
+            marks /= 2;
         }
     }
     s

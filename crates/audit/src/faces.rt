@@ -10,7 +10,7 @@ use super::counts::{clear, tally_face};
 use super::visits::visit;
 use faults::Frame;
 use mesh::Face;
-use records::Pen;
+use records::{Fault, Pen};
 
 // The face row at f, counted from 0. The caller knows that the row is there, so nothing is asked.
 fn face_of(rows: &[u32], f: usize) -> Face
@@ -36,15 +36,13 @@ fn sound_to(frame: Frame, from: usize, faces: usize, rows: &[u32], counts: &mut 
         × Tallying places rows.now faces frame.cells counts.old from counts.old }
     ensures { Sound frame from faces rows.now counts.old counts.new result }
 {
-    let mut f = from;
-    while f < faces {
+    for f in from..faces {
         let face = face_of(rows, f);
         if tally_face(counts, frame, face) {
             return f;
         }
-        f += 1;
     }
-    f
+    faces
 }
 
 pub(crate) fn audit_faces(
@@ -62,6 +60,7 @@ pub(crate) fn audit_faces(
     let pen = Pen { at: 0, live: true };
     let mut s = Stand { pen, total: 0 };
     let mut f = sound_to(frame, 0, faces, rows, counts);
+    // From one face with a fault to the next. Kinds and positions end where no mark is left: a loop over all of them takes longer.
     'faces: while f < faces {
         let face = face_of(rows, f);
         f += 1;
@@ -70,12 +69,16 @@ pub(crate) fn audit_faces(
         let mut kind: u32 = 1;
         'kinds: while 0 < marks {
             let mut here = marks % 16;
-            marks = marks / 16;
+            marks /= 16;
             let mut p: u32 = 0;
             'positions: while 0 < here {
-                let bit = here % 2;
-                s = visit(bit, number, kind, p, list, s);
-                here = here / 2;
+                let fault = Fault {
+                    kind,
+                    index: number,
+                    extra: p,
+                };
+                s = visit(here % 2, fault, list, s);
+                here /= 2;
                 p += 1;
             }
             kind += 1;

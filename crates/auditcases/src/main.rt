@@ -3,18 +3,18 @@
 // bytes are lent, then the face words and the cell words. What is no such word is stepped over.
 #![tactic(auto)]
 
-mod input;
 mod shown;
 
-ghost use Rattle.std.specs.Prelude.{◌+◌, ◌≤◌, length};
-
-use input::words_of;
-use shown::{print_audited, print_counts, print_list};
+use casewords::numbers_of;
+use shown::{print_all, print_audited};
 use std::io;
 use std::io::{BufWriter, Read, Write};
 
 // Input is read up to here.
 const MOST: u64 = 65536;
+
+// Words are taken up to here.
+const WORDS: usize = 16384;
 
 // Words before a case's rows.
 const HEAD: usize = 8;
@@ -24,91 +24,50 @@ const COUNTS: usize = 32;
 
 const LIST: usize = 256;
 
-// The case at `at`, whose parts are known to be there.
-fn judge(
-    out: &mut impl Write,
-    words: &[u32],
-    at: usize,
-    middle: usize,
-    end: usize,
-    counts: &mut [u32],
-    list: &mut [u8],
-) -> io::Result<()>
-    requires { (at + 8 ≤ middle) × (middle ≤ end) × (end ≤ length words.now) }
-{
-    let start = at + HEAD;
-    let dim = words[at];
-    let nodes = words[at + 1];
-    let faces = words[at + 2];
-    let cells = words[at + 3];
-    let a = audit::audit(
+// Runs the case that the words begin with, and answers the words behind it; none, where it is not whole. Counts begin as 9, list bytes as 7.
+fn one_case<'a>(out: &mut impl Write, words: &'a [u32]) -> io::Result<Option<&'a [u32]>> {
+    let Some((head, rest)) = words.split_first_chunk::<HEAD>() else {
+        return Ok(None);
+    };
+    let [
         dim,
         nodes,
         faces,
         cells,
-        &words[start..middle],
-        &words[middle..end],
-        counts,
-        list,
-    );
-    print_audited(out, a)?;
-    print_counts(out, counts)?;
-    print_list(out, list)?;
-    writeln!(out)
-}
-
-fn wide(w: u32) -> usize {
-    w as usize
-}
-
-// Answers where the next case begins, and the end where this one is not whole. Counts begin as 9, list bytes as 7.
-fn one_case(out: &mut impl Write, words: &[u32], at: usize) -> io::Result<usize> {
-    let size = words.len();
-    if size < HEAD {
-        return Ok(size);
-    }
-    if size - HEAD < at {
-        return Ok(size);
-    }
-    let faces_at = at + HEAD;
-    let face_words = wide(words[at + 4]);
-    let cell_words = wide(words[at + 5]);
-    let room = wide(words[at + 6]);
-    let bytes = wide(words[at + 7]);
-    if size - faces_at < face_words {
-        return Ok(size);
-    }
-    let cells_at = faces_at + face_words;
-    if size - cells_at < cell_words {
-        return Ok(size);
-    }
-    let end = cells_at + cell_words;
-    if COUNTS < room {
-        return Ok(size);
-    }
-    if LIST < bytes {
-        return Ok(size);
-    }
-    let mut counts: [u32; 32] = [9; 32];
-    let mut list: [u8; 256] = [7; 256];
-    judge(
-        out,
-        words,
-        at,
-        cells_at,
-        end,
-        &mut counts[..room],
-        &mut list[..bytes],
-    )?;
-    Ok(end)
+        face_words,
+        cell_words,
+        room,
+        bytes,
+    ] = *head;
+    let Some((face_rows, rest)) = rest.split_at_checked(face_words as usize) else {
+        return Ok(None);
+    };
+    let Some((cell_rows, rest)) = rest.split_at_checked(cell_words as usize) else {
+        return Ok(None);
+    };
+    let mut counts: [u32; COUNTS] = [9; COUNTS];
+    let mut list: [u8; LIST] = [7; LIST];
+    let Some(counts) = counts.get_mut(..room as usize) else {
+        return Ok(None);
+    };
+    let Some(list) = list.get_mut(..bytes as usize) else {
+        return Ok(None);
+    };
+    let audited = audit::audit(dim, nodes, faces, cells, face_rows, cell_rows, counts, list);
+    print_audited(out, audited)?;
+    print_all(out, counts)?;
+    print_all(out, list)?;
+    writeln!(out)?;
+    Ok(Some(rest))
 }
 
 fn run(out: &mut impl Write, words: &[u32]) -> io::Result<()> {
-    let mut at: usize = 0;
+    let mut rest = words;
     for _ in 0..words.len() {
-        if at < words.len() {
-            at = one_case(out, words, at)?;
-        }
+        let Some(behind) = one_case(out, rest)? else {
+            return Ok(());
+        };
+        rest = behind;
     }
     Ok(())
 }
@@ -123,13 +82,13 @@ fn largest(out: &mut impl Write) -> io::Result<()> {
         out,
         audit::audit(2, 65535, 0, 65535, &none, &rows, &mut counts, &mut list),
     )?;
-    print_list(out, &list)?;
+    print_all(out, &list)?;
     writeln!(out)?;
     print_audited(
         out,
         audit::audit(2, 65535, 0, 65536, &none, &rows, &mut counts, &mut list),
     )?;
-    print_list(out, &list)?;
+    print_all(out, &list)?;
     writeln!(out)
 }
 
@@ -137,9 +96,8 @@ fn main(rt: HostRuntime) -> io::Result<()> {
     let mut out = BufWriter::new(rt.alloc(), io::writer(&rt))?;
     let mut text = Vec::new(rt.alloc());
     rt.reader().take(MOST).read_to_end(&mut text)?;
-    let mut words: [u32; 16384] = [0; 16384];
-    let count = words_of(&text, &mut words);
-    run(&mut out, &words[..count])?;
+    let words = numbers_of(rt.alloc(), &text)?;
+    run(&mut out, &words[..words.len().min(WORDS)])?;
     largest(&mut out)?;
     out.flush()
 }

@@ -1,8 +1,9 @@
 -- Bytes in blocks of eight, all of them digits and blanks: words counted by their ends. No mesher need read it: only the contract of a function that looks at eight bytes at once cites it, none of reading. Assumes nothing.
-use Rattle.std.specs.Prelude.{ℕ, zero, suc, ◌+◌, ◌-◌, ◌*◌, ◌/◌, ◌%◌, ◌^◌, ◌≤◌, ◌≡◌, List, [], ◌∷◌, Bool, true, false, not, eqb, ltb, length}
+use Rattle.std.specs.Prelude.{ℕ, zero, suc, ◌+◌, ◌-◌, ◌*◌, ◌/◌, ◌%◌, ◌^◌, ◌≤◌, ◌≡◌, List, [], ◌∷◌, Bool, true, false, not, eqb, ltb, length, Option, Some, None}
 use Rattle.std.specs.Int.Bits.{bit_and, bit_or, bit_xor}
 use Rattle.std.specs.Int.Count.{ones, count_trailing_zeros, count_leading_zeros}
 use Rattle.tokens.specs.Tokens.{is_blank}
+use Rattle.digits.specs.declared.group.Base.{Base}
 use Rattle.digits.specs.Digits.{digit_of}
 use Rattle.digits.specs.Lanes.{Laned, marks_of, unlike_of}
 use Rattle.blocks.specs.declared.block.Block.{Block}
@@ -23,19 +24,22 @@ carry_of (suc t) = 128
 abbrev pub words_of : ℕ → ℕ → ℕ
 words_of n t = ones (bit_and n (bit_or (bit_xor n 0x8080808080808080 * 2 ^ 8 % 2 ^ 64) (carry_of t)))
 
+abbrev pub block : ℕ → ℕ → Option Block
+block words tail = Some (record { words = words; tail = tail })
+
 -- n has the highest bit of each lane in which no digit stands, b of each in which a blank stands: t digits before the block and those at its start are 8 at most
-abbrev pub block_by : ℕ → ℕ → ℕ → Block
+abbrev pub block_by : ℕ → ℕ → ℕ → Option Block
 block_by n b t =
     elim (eqb n b) [
       | true ↦ elim (eqb n 0) [
-        | true ↦ Block.Not
-        | false ↦ elim (ltb (8 - count_trailing_zeros 64 n / 8) t) [ true ↦ Block.Not | false ↦ Block.Is (words_of n t) (count_leading_zeros 64 n / 8) ]
+        | true ↦ None
+        | false ↦ elim (ltb (8 - count_trailing_zeros 64 n / 8) t) [ true ↦ None | false ↦ block (words_of n t) (count_leading_zeros 64 n / 8) ]
       ]
-      | false ↦ Block.Not
+      | false ↦ None
     ]
 
-abbrev pub block_of : ℕ → ℕ → Block
-block_of x t = block_by (marks_of true x) (blanks_of x) t
+abbrev pub block_of : ℕ → ℕ → Option Block
+block_of x t = block_by (marks_of Base.Sixteen x) (blanks_of x) t
 
 -- ---- what it is
 
@@ -72,6 +76,6 @@ pub record Read (t : ℕ) (w : List ℕ) (n t' : ℕ) : Type 0 where
   pub last : t' ≡ tail t w
 
 -- eight bytes, behind t digits
-abbrev pub BlockIs : ℕ → ℕ → Block → Type 0
-BlockIs x t (Block.Is words t') = (w : List ℕ) → Laned w x → length w ≡ 8 → Read t w words t'
-BlockIs x t Block.Not = Unit
+abbrev pub BlockIs : ℕ → ℕ → Option Block → Type 0
+BlockIs x t (Some b) = (w : List ℕ) → Laned w x → length w ≡ 8 → Read t w b.words b.tail
+BlockIs x t None = Unit

@@ -2,11 +2,13 @@
 ghost use Rattle.std.specs.Prelude.{◌≡◌};
 ghost use Rattle.blocks.specs.Blocks.{blanks_of, carry_of, words_of, block_of};
 
+use digits::Base;
+
 // A block of digits and blanks: how many words end in it, and how many digits stand at its end.
-#[derive(Clone, Copy)]
-pub enum Block {
-    Is { words: u32, tail: u32 },
-    Not,
+#[derive(Clone, Copy, Debug, PartialEq, Eq)]
+pub struct Block {
+    pub words: u32,
+    pub tail: u32,
 }
 
 // 9 and 13 differ in one bit.
@@ -43,28 +45,28 @@ fn words_in(none: u64, tail: u32) -> u32
 }
 
 // The next eight bytes, where `tail` digits stand before them.
-pub fn block_of(x: u64, tail: u32) -> Block
+pub fn block_of(x: u64, tail: u32) -> Option<Block>
     ensures { result ≡ block_of x tail }
 {
-    let none = digits::marks(x, true);
+    let none = digits::marks(x, Base::Sixteen);
     let blank = blanks(x);
-    if none == blank {
-        if none == 0 {
-            return Block::Not;
-        }
-        let first = u64::trailing_zeros(none);
-        let lead = first / 8;
-        let room = 8 - lead;
-        if room < tail {
-            return Block::Not;
-        }
-        let words = words_in(none, tail);
-        let last = u64::leading_zeros(none);
-        let behind = last / 8;
-        return Block::Is {
-            words,
-            tail: behind,
-        };
+    if none != blank {
+        return None;
     }
-    Block::Not
+    if none == 0 {
+        return None;
+    }
+    let first = u64::trailing_zeros(none);
+    let lead = first / 8;
+    let room = 8 - lead;
+    if room < tail {
+        return None;
+    }
+    let words = words_in(none, tail);
+    let last = u64::leading_zeros(none);
+    let behind = last / 8;
+    Some(Block {
+        words,
+        tail: behind,
+    })
 }

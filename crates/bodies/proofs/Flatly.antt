@@ -1,15 +1,14 @@
 -- Rows of words, one behind the other, are words one behind the other, where none is kept. Assumes nothing.
-use Prim.Native.Nat.{ℕ, zero, suc, ◌+◌, ◌*◌, ◌^◌, ◌≤◌, ◌<◌}
+use Prim.Native.Nat.{ℕ, zero, suc, ◌+◌, ◌*◌}
 use native.Mathlib.Omega.{arith}
-use native.Mathlib.Nat.{suc-mul, zero-mul, mul-le-mul_left}
+use native.Mathlib.Nat.{suc-mul, zero-mul}
 use mathlib.Core.Path.{◌≡◌, refl, sym, ◌∙◌, ap}
 use mathlib.Core.List.{List, ◌∷◌}
 use Rattle.tokens.specs.Listed.{Tok}
 use Rattle.layout.specs.Reading.{Got, got, bad, Reader, next, pure, pair_word, rows_of}
 use Rattle.layout.specs.Sections.{facing_of}
-use Rattle.bodies.specs.declared.rows.Word.{Word}
 use Rattle.bodies.specs.declared.rows.Row.{Row}
-use Rattle.bodies.specs.Bodies.{forget, word_unit, row_unit}
+use Rattle.bodies.specs.Bodies.{forget, hex_unit, pair_unit, row_unit}
 use Rattle.bodies.proofs.Forgotten.{dropped, rows_more, rows_stop, rows_none}
 use Rattle.bodies.proofs.Loose.{rows_forget, facing_is}
 
@@ -47,25 +46,19 @@ module _ (size : ℕ) (r : Reader Unit) where
 
 module _ (size : ℕ) where
   abbrev hexes : ℕ → Reader Unit
-  hexes n ts = forget (rows_of size (word_unit size Word.Hex) n ts)
+  hexes n ts = forget (rows_of size (hex_unit size) n ts)
 
   abbrev decimals : ℕ → Reader Unit
-  decimals n ts = forget (rows_of size (word_unit size Word.Decimal) n ts)
+  decimals n ts = forget (rows_of size (pair_unit size) n ts)
 
   -- a face is its nodes and two cells
   pub facing_words : (k : ℕ) (ts : List Tok) → hexes (k + 2) ts ≡ forget (facing_of size k ts)
-  facing_words k ts = sym (rows_plus size (word_unit size Word.Hex) k 2 ts) ∙ facing_is size k ts
+  facing_words k ts = sym (rows_plus size (hex_unit size) k 2 ts) ∙ facing_is size k ts
 
   pub facings_flat : (k n : ℕ) (ts : List Tok) → hexes (n * (k + 2)) ts ≡ forget (rows_of size (row_unit size (Row.Facing k)) n ts)
   facings_flat k n ts =
-      sym (rows_flat size (word_unit size Word.Hex) (k + 2) n ts) ∙ ap (λ (R : Reader Unit). forget (rows_of size R n ts)) (λ i us. facing_words k us i)
+      sym (rows_flat size (hex_unit size) (k + 2) n ts) ∙ ap (λ (R : Reader Unit). forget (rows_of size R n ts)) (λ i us. facing_words k us i)
 
   pub points_flat : (d n : ℕ) (ts : List Tok) → decimals (n * d) ts ≡ forget (rows_of size (row_unit size (Row.Point d)) n ts)
   points_flat d n ts =
-      sym (rows_flat size (word_unit size Word.Decimal) d n ts) ∙ ap (λ (R : Reader Unit). forget (rows_of size R n ts)) (λ i us. rows_forget size (pair_word size) d us i)
-
--- the number of words of so many rows, counted in 64 bits
-pub product_fits : (n w : ℕ) → n < 2 ^ 32 → w ≤ 2 ^ 32 + 1 → n * w < 2 ^ 64
-product_fits n w h l =
-    let first : n * w ≤ n * 4294967297 = mul-le-mul_left {m = w} {n = 4294967297} n (omega (arith, l)) in
-    omega (arith, first, h)
+      sym (rows_flat size (pair_unit size) d n ts) ∙ ap (λ (R : Reader Unit). forget (rows_of size R n ts)) (λ i us. rows_forget size (pair_word size) d us i)

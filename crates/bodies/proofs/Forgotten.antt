@@ -1,52 +1,34 @@
 -- Rows judged one behind the other. Assumes nothing.
+use Rattle.std.specs.Prelude.{Result, Ok, Err}
 use Prim.Native.Nat.{ℕ, suc, ◌-◌, ◌≤◌, ◌<◌}
 use native.Mathlib.Omega.{arith}
 use mathlib.Core.Path.{◌≡◌, refl, sym, ◌∙◌, ap}
 use mathlib.Core.List.{List, ◌∷◌}
-use lib.IntN.{ℤ}
 use lib.ListN.{length}
+use Rattle.facts.specs.declared.Taken.{Taken}
 use Rattle.tokens.specs.Listed.{Tok, tokens_from}
 use Rattle.layout.specs.declared.Refusal.{Refusal}
 use Rattle.layout.specs.Reading as R
-use Rattle.layout.specs.Reading.{Got, got, bad, Reader, next, pair_word, rows_of}
+use Rattle.layout.specs.Reading.{Got, got, bad, Reader, next, rows_of}
 use Rattle.spots.specs.declared.Bad.{Bad}
-use Rattle.spots.specs.declared.Past.{Past}
-use Rattle.steps.specs.declared.step.Num.{Num}
-use Rattle.steps.specs.declared.step.Pair.{Pair}
-use Rattle.bodies.specs.declared.rows.Word.{Word}
-use Rattle.steps.specs.Views.{num_view, pair_view, NumAhead, NumAt, PairAt}
-use Rattle.spots.specs.Pasts.{past_view}
+use Rattle.spots.specs.Pasts.{past_view, taken_view, TakenAt}
+use Rattle.steps.proofs.Chain.{taken_ahead}
 use Rattle.steps.proofs.Pairing.{Paired}
-use Rattle.bodies.specs.Bodies.{forget, past_of, word_unit, NotBefore, LooseAt}
+use Rattle.bodies.specs.Bodies.{forget, pair_unit, LooseAt}
 
 -- ---- single words
 module _ (s : List ℕ) (at : ℕ) where
-  past_view_lem : (r : Num) → past_view s (past_of r) ≡ forget (num_view s r)
-  past_view_lem (Num.Is v i n) = refl
-  past_view_lem (Num.No b) = refl
+  -- what was read and is not kept
+  module _ {T A : Type 0} {v : T → A} {g : Got A} {r : Result (Taken T) Bad} (h : TakenAt v s at r g) where
+    pub drop_no : (b : Bad) → r ≡ Err b → LooseAt s at (Err b) (forget g)
+    drop_no b q = record { says = ap (λ y. forget (taken_view v s y)) (sym q) ∙ ap forget h.says; from = tt }
 
-  past_from : (r : Num) → NumAhead at s r → NotBefore at (past_of r)
-  past_from (Num.Is v i n) h = omega (arith, h.0)
-  past_from (Num.No b) h = tt
-
-  -- a number that is not kept
-  pub loose_num : (r : Num) {g : Got R.Read} → NumAt s at r g → (p : Past) → p ≡ past_of r → LooseAt s at p (forget g)
-  loose_num r h p q = record { says = ap (past_view s) q ∙ past_view_lem r ∙ ap forget h.says; from = rw q (past_from r h.ahead) }
-
-  module _ (r : Pair) (h : PairAt s at r (pair_word (length s) (tokens_from s at))) where
-    pub decimal_no : (b : Bad) → r ≡ Pair.No b → LooseAt s at (Past.No b) (word_unit (length s) Word.Decimal (tokens_from s at))
-    decimal_no b q = record { says = ap (λ y. forget (pair_view s y)) (sym q) ∙ ap forget h.says; from = tt }
-
-    pub decimal_to : (m e : ℤ) (n : ℕ) → r ≡ Pair.Is m e n → LooseAt s at (Past.To n) (word_unit (length s) Word.Decimal (tokens_from s at))
-    decimal_to m e n q =
-        record {
-          says = ap (λ y. forget (pair_view s y)) (sym q) ∙ ap forget h.says;
-          from = let a : (at < n) × (n ≤ length s) = rw q at h.ahead in omega arith;
-        }
+    pub drop_to : (t : Taken T) → r ≡ Ok t → LooseAt s at (Ok t.next) (forget g)
+    drop_to t q = record { says = ap (λ y. forget (taken_view v s y)) (sym q) ∙ ap forget h.says; from = omega (arith, taken_ahead s at t h q) }
 
   -- a coordinate of which only its place is known
-  pub decimal_went : (n : ℕ) → Paired s at n → LooseAt s at (Past.To n) (word_unit (length s) Word.Decimal (tokens_from s at))
-  decimal_went n p = decimal_to (Pair.Is p.mantissa p.exponent n) p.pair p.mantissa p.exponent n refl
+  pub decimal_went : (n : ℕ) → Paired s at n → LooseAt s at (Ok n) (pair_unit (length s) (tokens_from s at))
+  decimal_went n p = drop_to p.pair (record { value = p.decimal; next = n }) refl
 
 -- ---- n things, each by r
 pub dropped : {A : Type 0} (a : A) (g : Got (List A)) → forget (next g (λ xs. R.pure (a ∷ xs))) ≡ forget g
@@ -76,16 +58,16 @@ module _ (s : List ℕ) (r : Reader Unit) (at n : ℕ) where
   going_start = record { from = omega arith; same = refl }
 
   module _ (c left : ℕ) (g : Going s r at n c left) where
-    pub going_end : left ≤ 0 → LooseAt s at (Past.To c) (forget (rows_of (length s) r n (tokens_from s at)))
+    pub going_end : left ≤ 0 → LooseAt s at (Ok c) (forget (rows_of (length s) r n (tokens_from s at)))
     going_end l =
         let z : left ≡ 0 = omega arith in
         record { says = rows_none (length s) r (tokens_from s c) ∙ ap (λ k. forget (rows_of (length s) r k (tokens_from s c))) (sym z) ∙ g.same; from = g.from }
 
-    module _ (l : 0 < left) (p : Past) (h : LooseAt s c p (r (tokens_from s c))) where
+    module _ (l : 0 < left) (p : Result ℕ Bad) (h : LooseAt s c p (r (tokens_from s c))) where
       one : suc (left - 1) ≡ left
       one = omega arith
 
-      pub going_stop : (b : Bad) → p ≡ Past.No b → LooseAt s at (Past.No b) (forget (rows_of (length s) r n (tokens_from s at)))
+      pub going_stop : (b : Bad) → p ≡ Err b → LooseAt s at (Err b) (forget (rows_of (length s) r n (tokens_from s at)))
       going_stop b q =
           record {
             says = rows_stop (length s) r (left - 1) (tokens_from s c) b.why b.offset (sym h.says ∙ ap (past_view s) q)
@@ -93,7 +75,7 @@ module _ (s : List ℕ) (r : Reader Unit) (at n : ℕ) where
             from = tt;
           }
 
-      pub going_more : (m : ℕ) → p ≡ Past.To m → Going s r at n m (left - 1)
+      pub going_more : (m : ℕ) → p ≡ Ok m → Going s r at n m (left - 1)
       going_more m q =
           let f : c ≤ m = rw q at h.from in
           record {

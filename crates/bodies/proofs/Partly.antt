@@ -1,14 +1,14 @@
 -- Words read in blocks: the bytes one by one, a word where a blank stands behind digits. Assumes nothing.
+use Rattle.std.specs.Prelude.{Option, Some, Ok}
 use Prim.Native.Nat.{ℕ, zero, suc, ◌+◌, ◌-◌, ◌≤◌, ◌<◌, zero-le}
 use native.Mathlib.Omega.{arith}
 use mathlib.Core.Path.{◌≡◌, refl, sym, ap, subst, ◌∙◌}
 use mathlib.Core.List.{List, [], ◌∷◌, ◌++◌, append_assoc}
-use mathlib.Core.Bool.{Bool, true, false, not, ◌&&◌}
-use borrow.Author.Tests.{ltb-true, le-leb, lt-leb, leb-true, leb-false}
+use mathlib.Core.Bool.{Bool, true, false, not}
+use borrow.Author.Tests.{ltb-true, leb-true}
 use lib.Dec.{leb}
 use lib.ListN.{length, take, drop, get_or, length-append, length-drop, length-take, take-append-drop}
 use lib.Seq.{take-append-add, length-take-le}
-use Rattle.facts.proofs.Branch.{split}
 use Rattle.facts.proofs.First.{first_inside, first_is, first_behind}
 use Rattle.facts.proofs.Decides.{and_split}
 use Rattle.tokens.specs.Tokens.{is_blank, start_of}
@@ -22,26 +22,22 @@ use Rattle.digits.specs.Lanes.{Laned}
 use Rattle.digits.proofs.Digits.{Begins, NoDigit, figures_append}
 use Rattle.numbers.proofs.Wholes.{whole_of_exact}
 use Rattle.numbers.proofs.AtOnce.{hexes_all, digit_high}
-use Rattle.spots.specs.declared.Past.{Past}
-use Rattle.steps.specs.declared.step.Num.{Num}
 use Rattle.quick.specs.Quick.{hexes_from}
 use Rattle.quick.proofs.Ending.{quick_is, quick_from}
 use Rattle.steps.proofs.Quickly.{quick_number}
-use Rattle.bodies.specs.declared.hexes.Rest.{Rest}
 use Rattle.blocks.specs.declared.block.Block.{Block}
-use Rattle.bodies.specs.declared.rows.Word.{Word}
-use Rattle.bodies.specs.Bodies.{forget, word_unit, LooseAt}
+use Rattle.bodies.specs.Bodies.{forget, hex_unit}
 use Rattle.blocks.specs.Blocks.{is_hex, Plain, one, ends, tail, Fair, Read, BlockIs, block_of}
-use Rattle.bodies.specs.Hexes.{goes_for, Gone}
-use Rattle.bodies.proofs.Forgotten.{Going, going_start, going_more, loose_num}
+use Rattle.bodies.specs.Hexes.{goes_for}
+use Rattle.bodies.proofs.Forgotten.{Going, going_more, drop_to}
 use Rattle.blocks.proofs.Blocked.{Chosen, ends_few, block_is}
 use Rattle.blocks.proofs.Counted.{chosen}
-use Rattle.bodies.proofs.Loose.{later, loose_is, hex_is}
+use Rattle.bodies.proofs.Loose.{loose_is, hex_is}
 
 -- ---- one word more
 module _ (s : List ℕ) (at n : ℕ) where
   abbrev unit : Reader Unit
-  unit = word_unit (length s) Word.Hex
+  unit = hex_unit (length s)
 
   going_blank : (c left : ℕ) → Going s unit at n c left → c < length s → is_blank (get_or s c 0) ≡ true → Going s unit at n (c + 1) left
   going_blank c left g h e =
@@ -88,30 +84,17 @@ module _ (s : List ℕ) (at n : ℕ) where
         let h : Hexes = record { value = value; count = t } in
         let q = quick_is s c h (λ z. omega (arith, z, some)) (blank_ends s (c + t) inside e) ∙ quick_from s c h c starts (sym hexes) in
         let num = quick_number s c _ q value (c + t) refl in
-        going_more s unit at n c left g o (Past.To (c + t)) (loose_is s c (hex_is (length s) (tokens_from s c)) (loose_num s c (Num.Is value (start_of s c) (c + t)) num (Past.To (c + t)) refl)) (c + t) refl
+        going_more s unit at n c left g o (Ok (c + t)) (loose_is s c (hex_is (length s) (tokens_from s c)) (drop_to s c num _ refl)) (c + t) refl
 
 -- ---- byte by byte: t digits stand before c, and what is left is to be read from their first on
 pub record Partial (s : List ℕ) (at n c t left : ℕ) : Type 0 where
-  pub going : Going s (word_unit (length s) Word.Hex) at n (c - t) left
+  pub going : Going s (hex_unit (length s)) at n (c - t) left
   pub run : List ℕ
   pub long : length run ≡ t
   pub figures : Figures 16 run
   pub parted : drop (c - t) s ≡ run ++ drop c s
   pub few : t ≤ 8
   pub back : t ≤ c
-
-pub partial_start : (s : List ℕ) (at n : ℕ) → Partial s at n at 0 n
-partial_start s at n =
-    let z : at ≡ at - 0 = omega arith in
-    record {
-      going = subst (λ (k : ℕ). Going s (word_unit (length s) Word.Hex) at n k n) z (going_start s (word_unit (length s) Word.Hex) at n);
-      run = [];
-      long = refl;
-      figures = tt;
-      parted = ap (λ (k : ℕ). drop k s) (sym z);
-      few = zero-le;
-      back = zero-le;
-    }
 
 module _ (s : List ℕ) (at n : ℕ) where
   abbrev At : ℕ → ℕ → ℕ → Type 0
@@ -122,7 +105,7 @@ module _ (s : List ℕ) (at n : ℕ) where
     digit_more t left p e h =
         let z : c - t ≡ c + 1 - suc t = omega (arith, p.back) in
         record {
-          going = subst (λ (k : ℕ). Going s (word_unit (length s) Word.Hex) at n k left) z p.going;
+          going = subst (λ (k : ℕ). Going s (hex_unit (length s)) at n k left) z p.going;
           run = p.run ++ (b ∷ []);
           long = length-append p.run (b ∷ []) ∙ omega (arith, p.long);
           figures = figures_append 16 p.run (b ∷ []) p.figures (ltb-true (digit_of b) 16 e, tt);
@@ -134,23 +117,23 @@ module _ (s : List ℕ) (at n : ℕ) where
     blank_here : is_blank b ≡ true → is_blank (get_or s c 0) ≡ true
     blank_here e = ap is_blank (first_is s c b rest here) ∙ e
 
-    nothing : (left : ℕ) → Going s (word_unit (length s) Word.Hex) at n (c + 1) left → At (c + 1) 0 left
+    nothing : (left : ℕ) → Going s (hex_unit (length s)) at n (c + 1) left → At (c + 1) 0 left
     nothing left g =
         let z : c + 1 ≡ c + 1 - 0 = omega arith in
-        record { going = subst (λ (k : ℕ). Going s (word_unit (length s) Word.Hex) at n k left) z g; run = []; long = refl; figures = tt; parted = ap (λ (k : ℕ). drop k s) (sym z); few = zero-le; back = zero-le }
+        record { going = subst (λ (k : ℕ). Going s (hex_unit (length s)) at n k left) z g; run = []; long = refl; figures = tt; parted = ap (λ (k : ℕ). drop k s) (sym z); few = zero-le; back = zero-le }
 
     blank_more : (t left : ℕ) → At c t left → is_hex b ≡ false → is_blank b ≡ true → one t ≤ left → At (c + 1) 0 (left - one t)
     blank_more zero left p d e h =
         let z : c - 0 ≡ c = omega arith in
         let y : left ≡ left - 0 = omega arith in
-        subst (λ (k : ℕ). At (c + 1) 0 k) y (nothing left (going_blank s at n c left (subst (λ (k : ℕ). Going s (word_unit (length s) Word.Hex) at n k left) z p.going) (first_inside s c b rest here) (blank_here e)))
+        subst (λ (k : ℕ). At (c + 1) 0 k) y (nothing left (going_blank s at n c left (subst (λ (k : ℕ). Going s (hex_unit (length s)) at n k left) z p.going) (first_inside s c b rest here) (blank_here e)))
     blank_more (suc t) left p d e h =
         let z : c - suc t + suc t ≡ c = omega (arith, p.back) in
         let inn : c - suc t + suc t < length s = omega (arith, z, first_inside s c b rest here) in
         let blank : is_blank (get_or s (c - suc t + suc t) 0) ≡ true = ap (λ (k : ℕ). is_blank (get_or s k 0)) z ∙ blank_here e in
         let front : Begins (NoDigit 16) (drop c s) = subst (Begins (NoDigit 16)) (sym here) d in
         let g = going_word s at n (c - suc t) (suc t) left p.run (drop c s) p.long p.figures p.few (omega arith) p.parted inn blank front p.going (omega (arith, h)) in
-        nothing (left - 1) (going_blank s at n c (left - 1) (subst (λ (k : ℕ). Going s (word_unit (length s) Word.Hex) at n k (left - 1)) z g) (first_inside s c b rest here) (blank_here e))
+        nothing (left - 1) (going_blank s at n c (left - 1) (subst (λ (k : ℕ). Going s (hex_unit (length s)) at n k (left - 1)) z g) (first_inside s c b rest here) (blank_here e))
 
     -- one byte, and then the others
     abbrev Behind : List ℕ → ℕ → ℕ → Type 0
@@ -184,24 +167,9 @@ module _ (s : List ℕ) (at n : ℕ) where
       let all = bytes_all w (drop 8 (drop c s)) c t left (sym (take-append-drop 8 (drop c s))) p y.plain y.fair (omega (arith, few)) in
       (omega (arith, few, y.words), subst (λ (m : ℕ). At (c + 8) t' (left - m)) (sym y.words) (subst (λ (m : ℕ). At (c + 8) m (left - ends t w)) (sym y.last) (subst (λ (m : ℕ). At (c + m) (tail t w) (left - ends t w)) n all)))
 
-  pub partial_gone : (c t left : ℕ) → At c t left → Gone s at n (record { next = c - t; left = left })
-  partial_gone c t left p = record { from = p.going.from; same = p.going.same }
-
 -- ---- where the blocks stop
 module _ (left c size : ℕ) where
-  pub goes_few : left < 8 → false ≡ goes_for left c size
-  goes_few h = sym (ap (λ (b : Bool). b && leb (c + 8) size) (lt-leb 8 left h))
-
-  pub goes_short : size < 8 → false ≡ goes_for left c size
-  goes_short h = split (leb 8 left) (λ p. sym (ap (λ (b : Bool). b && leb (c + 8) size) p ∙ lt-leb (c + 8) size (omega (arith, h)))) (λ p. sym (ap (λ (b : Bool). b && leb (c + 8) size) p))
-
-  pub goes_is : 8 ≤ left → 8 ≤ size → leb c (size - 8) ≡ goes_for left c size
-  goes_is h l =
-      split (leb c (size - 8))
-      (λ p. p ∙ sym (ap (λ (b : Bool). b && leb (c + 8) size) (le-leb 8 left h) ∙ le-leb (c + 8) size (omega (arith, l, leb-true c (size - 8) p))))
-      (λ p. p ∙ sym (ap (λ (b : Bool). b && leb (c + 8) size) (le-leb 8 left h) ∙ lt-leb (c + 8) size (omega (arith, l, leb-false c (size - 8) p))))
-
-  pub goes_true : goes_for left c size ≡ true → (8 ≤ left) × (c + 8 ≤ size)
+  goes_true : goes_for left c size ≡ true → (8 ≤ left) × (c + 8 ≤ size)
   goes_true e = let b = and_split (leb 8 left) (leb (c + 8) size) e in (leb-true 8 left b.0, leb-true (c + 8) size b.1)
 
 pub record Next (s : List ℕ) (at n c left k t' : ℕ) : Type 0 where
@@ -209,14 +177,9 @@ pub record Next (s : List ℕ) (at n c left k t' : ℕ) : Type 0 where
   pub within : c + 8 ≤ length s
   pub more : Partial s at n (c + 8) t' (left - k)
 
-pub block_next : (s : List ℕ) (at n x c t left : ℕ) (r : Block) → Partial s at n c t left → r ≡ block_of x t → Laned (take 8 (drop c s)) x → goes_for left c (length s) ≡ true
-    → (k t' : ℕ) → r ≡ Block.Is k t' → Next s at n c left k t'
-block_next s at n x c t left r p b l g k t' e =
+pub block_next : (s : List ℕ) (at n x c t left : ℕ) (r : Option Block) → Partial s at n c t left → r ≡ block_of x t → Laned (take 8 (drop c s)) x → goes_for left c (length s) ≡ true
+    → (y : Block) → r ≡ Some y → Next s at n c left y.words y.tail
+block_next s at n x c t left r p b l g y e =
     let o = goes_true left c (length s) g in
-    let m = block_more s at n x c t left k t' p (subst (BlockIs x t) (sym b ∙ e) (block_is x t)) l o.0 o.1 in
+    let m = block_more s at n x c t left y.words y.tail p (subst (BlockIs x t) (sym b ∙ e) (block_is x t)) l o.0 o.1 in
     record { few = omega (arith, m.0, o.0); within = o.1; more = m.1 }
-
--- what is read behind the blocks is read behind the place where they began
-pub gone_loose : (s : List ℕ) (at n : ℕ) (r : Rest) → Gone s at n r → (p : Past) → LooseAt s r.next p (forget (rows_of (length s) (word_unit (length s) Word.Hex) r.left (tokens_from s r.next)))
-    → LooseAt s at p (forget (rows_of (length s) (word_unit (length s) Word.Hex) n (tokens_from s at)))
-gone_loose s at n r g p l = record { says = l.says ∙ g.same; from = later at r.next p g.from l.from }

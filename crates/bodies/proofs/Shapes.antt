@@ -1,4 +1,6 @@
 -- What stands in a body, by its header. Assumes nothing.
+use Rattle.spots.specs.declared.Bad.{Bad}
+use Rattle.std.specs.Prelude.{Result, Ok, Err}
 use Prim.Native.Nat.{ℕ, zero, suc}
 use native.Mathlib.Omega.{arith}
 use mathlib.Core.Path.{◌≡◌, refl, sym, ◌∙◌, ap}
@@ -9,37 +11,10 @@ use Rattle.layout.specs.declared.Refusal.{Refusal}
 use Rattle.layout.specs.Items.{Kind, node, cell, face, Perhaps, absent, given, points, elements, facets}
 use Rattle.layout.specs.Reading.{got, bad, Reader, rows_of, pair_word, enclosed_of}
 use Rattle.layout.specs.Sections.{element_of, facing_of, mixed_of, body_of}
-use Rattle.spots.specs.declared.Past.{Past}
-use Rattle.spots.specs.declared.Fifth.{Fifth}
 use Rattle.bodies.specs.declared.rows.Row.{Row}
 use Rattle.bodies.specs.declared.bodies.Shape.{Shape}
-use Rattle.spots.specs.Heads.{fifth_for}
-use Rattle.bodies.specs.Bodies.{forget, row_unit, cell_shape, face_shape, shape_of, LooseAt}
+use Rattle.bodies.specs.Bodies.{forget, row_unit, shape_of, LooseAt}
 use Rattle.bodies.proofs.Loose.{kept, enclosed_forget, loose_is}
-
-module _ (f : Fifth) (v : ℕ) (q : f ≡ Fifth.Given v) where
-  nought : {A : Type 0} (F : Perhaps → A) → v ≡ 0 → F (given 0) ≡ F (fifth_for f)
-  nought F z = ap (λ y. F (given y)) (sym z) ∙ ap (λ y. F (fifth_for y)) (sym q)
-
-  pub cell_mixed : v ≡ 0 → Shape.Rows Row.Element ≡ cell_shape (fifth_for f)
-  cell_mixed z = nought cell_shape z
-
-  pub face_mixed : v ≡ 0 → Shape.Rows Row.Mixed ≡ face_shape (fifth_for f)
-  face_mixed z = nought face_shape z
-
-  cell_by_lem : (y : ℕ) → (y ≡ 0 → ⊥) → Shape.Bare ≡ cell_shape (given y)
-  cell_by_lem zero n = absurd (n refl)
-  cell_by_lem (suc y) n = refl
-
-  face_by_lem : (y : ℕ) → (y ≡ 0 → ⊥) → Shape.Rows (Row.Facing y) ≡ face_shape (given y)
-  face_by_lem zero n = absurd (n refl)
-  face_by_lem (suc y) n = refl
-
-  pub cell_regular : (v ≡ 0 → ⊥) → Shape.Bare ≡ cell_shape (fifth_for f)
-  cell_regular n = cell_by_lem v n ∙ ap (λ y. cell_shape (fifth_for y)) (sym q)
-
-  pub face_regular : (v ≡ 0 → ⊥) → Shape.Rows (Row.Facing v) ≡ face_shape (fifth_for f)
-  face_regular n = face_by_lem v n ∙ ap (λ y. face_shape (fifth_for y)) (sym q)
 
 module _ (size : ℕ) where
   abbrev shape_unit : Shape → ℕ → Reader Unit
@@ -61,12 +36,12 @@ module _ (s : List ℕ) (at : ℕ) (k : Kind) (d n : ℕ) (v : Perhaps) {x : Sha
   by_shape : (y : Shape) → x ≡ y → shape_unit (length s) y n (tokens_from s at) ≡ forget (body_of (length s) k d n v (tokens_from s at))
   by_shape y q = ap (λ z. shape_unit (length s) z n (tokens_from s at)) (sym q ∙ e) ∙ body_is (length s) k d n v (tokens_from s at)
 
-  pub body_rows : (row : Row) → x ≡ Shape.Rows row → {p : Past} → LooseAt s at p (forget (enclosed_of (length s) (row_unit (length s) row) n (tokens_from s at)))
+  pub body_rows : (row : Row) → x ≡ Shape.Rows row → {p : Result ℕ Bad} → LooseAt s at p (forget (enclosed_of (length s) (row_unit (length s) row) n (tokens_from s at)))
       → LooseAt s at p (forget (body_of (length s) k d n v (tokens_from s at)))
   body_rows row q h = loose_is s at (by_shape (Shape.Rows row) q) h
 
-  pub body_bare : x ≡ Shape.Bare → LooseAt s at (Past.To at) (forget (body_of (length s) k d n v (tokens_from s at)))
+  pub body_bare : x ≡ Shape.Bare → LooseAt s at (Ok at) (forget (body_of (length s) k d n v (tokens_from s at)))
   body_bare q = record { says = by_shape Shape.Bare q; from = omega arith }
 
-  pub body_never : x ≡ Shape.Never → LooseAt s at (Past.No (record { why = Refusal.Grammar; offset = length s })) (forget (body_of (length s) k d n v (tokens_from s at)))
+  pub body_never : x ≡ Shape.Never → LooseAt s at (Err (record { why = Refusal.Grammar; offset = length s })) (forget (body_of (length s) k d n v (tokens_from s at)))
   body_never q = record { says = by_shape Shape.Never q; from = tt }

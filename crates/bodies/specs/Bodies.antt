@@ -1,13 +1,11 @@
 -- Bodies judged and not kept: what a reader gives, with its value forgotten. Assumes nothing.
-use Rattle.std.specs.Prelude.{ℕ, zero, suc, ◌≤◌, ◌≡◌, List, ◌&&◌, leb}
+use Rattle.spots.specs.declared.Bad.{Bad}
+use Rattle.std.specs.Prelude.{ℕ, zero, suc, ◌≤◌, ◌≡◌, List, ◌&&◌, leb, Result, Ok, Err}
 use Rattle.layout.specs.declared.Refusal.{Refusal}
 use Rattle.layout.specs.Items.{Kind, node, cell, face, Perhaps, absent, given}
-use Rattle.layout.specs.Reading.{Got, got, bad, Reader, Read, ◌>>=◌, ◌>>◌, pure, check, right_of, hex_word, pair_word, rows_of}
+use Rattle.layout.specs.Reading.{Got, got, bad, Reader, Read, ◌>>=◌, pure, check, hex_word, pair_word, rows_of}
 use Rattle.layout.specs.Sections.{hex_of, element_of, facing_of, mixed_of}
-use Rattle.spots.specs.declared.Past.{Past}
-use Rattle.steps.specs.declared.step.Num.{Num}
 use Rattle.bodies.specs.declared.bodies.Shape.{Shape}
-use Rattle.bodies.specs.declared.rows.Word.{Word}
 use Rattle.bodies.specs.declared.rows.Row.{Row}
 use Rattle.spots.specs.Pasts.{past_view}
 
@@ -15,13 +13,11 @@ abbrev pub forget : {A : Type 0} → Got A → Got Unit
 forget (got a us) = got tt us
 forget (bad w o) = bad w o
 
-abbrev pub past_of : Num → Past
-past_of (Num.Is v i n) = Past.To n
-past_of (Num.No b) = Past.No b
+abbrev pub hex_unit : ℕ → Reader Unit
+hex_unit size ts = forget (hex_of size ts)
 
-abbrev pub word_unit : ℕ → Word → Reader Unit
-word_unit size Word.Hex ts = forget (hex_of size ts)
-word_unit size Word.Decimal ts = forget (pair_word size ts)
+abbrev pub pair_unit : ℕ → Reader Unit
+pair_unit size ts = forget (pair_word size ts)
 
 abbrev pub row_unit : ℕ → Row → Reader Unit
 row_unit size Row.Element ts = forget (element_of size ts)
@@ -35,13 +31,6 @@ listed_of size lo hi = do
   e ← hex_word size
   check (leb lo e.value && leb e.value hi) Refusal.Type e.at do
     pure e
-
--- the rest of an enclosed body, behind its `(`
-abbrev pub closed_of : {A : Type 0} → ℕ → Reader A → ℕ → Reader (List A)
-closed_of size r n = do
-  xs ← rows_of size r n
-  right_of size
-  pure xs
 
 abbrev pub cell_shape : Perhaps → Shape
 cell_shape absent = Shape.Never
@@ -59,10 +48,10 @@ shape_of cell d v = cell_shape v
 shape_of face d v = face_shape v
 
 -- the place behind is not before `at`
-abbrev pub NotBefore : ℕ → Past → Type 0
-NotBefore at (Past.To n) = at ≤ n
-NotBefore at (Past.No b) = Unit
+abbrev pub NotBefore : ℕ → Result ℕ Bad → Type 0
+NotBefore at (Ok n) = at ≤ n
+NotBefore at (Err b) = Unit
 
-pub record LooseAt (s : List ℕ) (at : ℕ) (r : Past) (g : Got Unit) : Type 0 where
+pub record LooseAt (s : List ℕ) (at : ℕ) (r : Result ℕ Bad) (g : Got Unit) : Type 0 where
   pub says : past_view s r ≡ g
   pub from : NotBefore at r

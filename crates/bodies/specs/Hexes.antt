@@ -3,8 +3,7 @@ use Rattle.std.specs.Prelude.{ℕ, ◌+◌, ◌≤◌, ◌≡◌, List, Bool, �
 use Rattle.tokens.specs.Listed.{tokens_from}
 use Rattle.layout.specs.Reading.{rows_of}
 use Rattle.bodies.specs.declared.hexes.Rest.{Rest}
-use Rattle.bodies.specs.declared.rows.Word.{Word}
-use Rattle.bodies.specs.Bodies.{forget, word_unit}
+use Rattle.bodies.specs.Bodies.{forget, hex_unit}
 
 -- all eight bytes are there, and no more words can end in them than are left
 abbrev pub goes_for : ℕ → ℕ → ℕ → Bool
@@ -13,4 +12,4 @@ goes_for left c size = leb 8 left && leb (c + 8) size
 -- what is left of n words, from the next place on, is what there was
 pub record Gone (s : List ℕ) (at n : ℕ) (r : Rest) : Type 0 where
   pub from : at ≤ r.next
-  pub same : forget (rows_of (length s) (word_unit (length s) Word.Hex) r.left (tokens_from s r.next)) ≡ forget (rows_of (length s) (word_unit (length s) Word.Hex) n (tokens_from s at))
+  pub same : forget (rows_of (length s) (hex_unit (length s)) r.left (tokens_from s r.next)) ≡ forget (rows_of (length s) (hex_unit (length s)) n (tokens_from s at))

@@ -1,15 +1,15 @@
 // A section's body, judged and not kept.
 ghost use Rattle.std.specs.Prelude.{◌≡◌, length};
 ghost use Rattle.tokens.specs.Listed.{tokens_from};
-ghost use Rattle.layout.specs.Reading.{right_of, enclosed_of};
+ghost use Rattle.layout.specs.Reading.{enclosed_of};
 ghost use Rattle.layout.specs.Sections.{body_of};
 ghost use Rattle.spots.specs.Heads.{kind_for, fifth_for};
-ghost use Rattle.bodies.specs.Bodies.{LooseAt, forget, row_unit, closed_of, cell_shape, face_shape, shape_of};
+ghost use Rattle.bodies.specs.Bodies.{LooseAt, forget, row_unit, cell_shape, face_shape, shape_of};
 
 use super::rows::{Row, rows_past};
 use layout::Refusal;
-use spots::{Bad, Fifth, Kind, Past};
-use steps::{Close, left_at, right_at};
+use spots::{Bad, Kind};
+use steps::{left_at, right_at};
 
 // What stands in a body: rows of one form, nothing, or what no header can ask for.
 #[derive(Clone, Copy)]
@@ -19,37 +19,27 @@ pub enum Shape {
     Never,
 }
 
-fn cell_shape(fifth: Fifth) -> Shape
+fn cell_shape(fifth: Option<u32>) -> Shape
     ensures { result ≡ cell_shape (fifth_for fifth) }
 {
     match fifth {
-        Fifth::Absent => Shape::Never,
-        Fifth::Given(v) => {
-            if v == 0 {
-                Shape::Rows(Row::Element)
-            } else {
-                Shape::Bare
-            }
-        }
+        Some(0) => Shape::Rows(Row::Element),
+        Some(_) => Shape::Bare,
+        None => Shape::Never,
     }
 }
 
-fn face_shape(fifth: Fifth) -> Shape
+fn face_shape(fifth: Option<u32>) -> Shape
     ensures { result ≡ face_shape (fifth_for fifth) }
 {
     match fifth {
-        Fifth::Absent => Shape::Never,
-        Fifth::Given(v) => {
-            if v == 0 {
-                Shape::Rows(Row::Mixed)
-            } else {
-                Shape::Rows(Row::Facing(v))
-            }
-        }
+        Some(0) => Shape::Rows(Row::Mixed),
+        Some(v) => Shape::Rows(Row::Facing(v)),
+        None => Shape::Never,
     }
 }
 
-fn shape_of(kind: Kind, d: u32, fifth: Fifth) -> Shape
+fn shape_of(kind: Kind, d: u32, fifth: Option<u32>) -> Shape
     ensures { result ≡ shape_of (kind_for kind) d (fifth_for fifth) }
 {
     match kind {
@@ -59,45 +49,30 @@ fn shape_of(kind: Kind, d: u32, fifth: Fifth) -> Shape
     }
 }
 
-fn right_past(s: &[u8], at: usize) -> Past
-    ensures { LooseAt s.now at result (forget (right_of (length s.now) (tokens_from s.now at))) }
-{
-    let c = right_at(s, at);
-    match c {
-        Close::No(bad) => Past::No(bad),
-        Close::At { start: _, next } => Past::To(next),
-    }
-}
-
-fn closed_past(s: &[u8], at: usize, row: Row, n: u32) -> Past
-    ensures { LooseAt s.now at result (forget (closed_of (length s.now) (row_unit (length s.now) row) n (tokens_from s.now at))) }
-{
-    let p = rows_past(s, at, row, n);
-    match p {
-        Past::No(bad) => Past::No(bad),
-        Past::To(c) => right_past(s, c),
-    }
-}
-
-fn enclosed_past(s: &[u8], at: usize, row: Row, n: u32) -> Past
+fn enclosed_past(s: &[u8], at: usize, row: Row, n: u32) -> Result<usize, Bad>
     ensures { LooseAt s.now at result (forget (enclosed_of (length s.now) (row_unit (length s.now) row) n (tokens_from s.now at))) }
 {
-    let p = left_at(s, at);
-    match p {
-        Past::No(bad) => Past::No(bad),
-        Past::To(c) => closed_past(s, c, row, n),
-    }
+    let inside = left_at(s, at)?;
+    let behind = rows_past(s, inside, row, n)?;
+    let close = right_at(s, behind)?;
+    Ok(close.next)
 }
 
 // The body of n things of a kind; d coordinates a node.
-pub fn body_at(s: &[u8], at: usize, kind: Kind, d: u32, n: u32, fifth: Fifth) -> Past
+pub fn body_at(
+    s: &[u8],
+    at: usize,
+    kind: Kind,
+    d: u32,
+    n: u32,
+    fifth: Option<u32>,
+) -> Result<usize, Bad>
     ensures { LooseAt s.now at result (forget (body_of (length s.now) (kind_for kind) d n (fifth_for fifth) (tokens_from s.now at))) }
 {
-    let shape = shape_of(kind, d, fifth);
-    match shape {
+    match shape_of(kind, d, fifth) {
         Shape::Rows(row) => enclosed_past(s, at, row, n),
-        Shape::Bare => Past::To(at),
-        Shape::Never => Past::No(Bad {
+        Shape::Bare => Ok(at),
+        Shape::Never => Err(Bad {
             why: Refusal::Grammar,
             offset: s.len(),
         }),

@@ -2,7 +2,7 @@
 ghost use Rattle.std.specs.Prelude.{◌≡◌};
 ghost use Rattle.bodies.specs.Hexes.{goes_for, Gone};
 
-use blocks::{Block, block_of};
+use blocks::block_of;
 
 // The place behind the words so far, and how many are left.
 #[derive(Clone, Copy)]
@@ -14,17 +14,11 @@ pub struct Rest {
 fn goes_for(left: usize, c: usize, size: usize) -> bool
     ensures { result ≡ goes_for left c size }
 {
-    if left < 8 {
-        return false;
-    }
-    if size < 8 {
-        return false;
-    }
-    let last = size - 8;
-    c <= last
+    8 <= left && 8 <= size && c <= size - 8
 }
 
 // As many of n words as can be read in blocks; the others are left.
+// No `for`: the blocks end with the file or with the words that are left, whichever comes first.
 pub(crate) fn blocks_past(s: &[u8], at: usize, n: usize) -> Rest
     ensures { Gone s.now at n result }
 {
@@ -34,22 +28,12 @@ pub(crate) fn blocks_past(s: &[u8], at: usize, n: usize) -> Rest
     let size = s.len();
     while goes_for(left, c, size) {
         let x = digits::bytes_at(s, c);
-        match block_of(x, tail) {
-            Block::Not => {
-                let back = tail as usize;
-                let next = c - back;
-                return Rest { next, left };
-            }
-            Block::Is {
-                words,
-                tail: behind,
-            } => {
-                let count = words as usize;
-                left -= count;
-                tail = behind;
-                c += 8;
-            }
-        }
+        let Some(block) = block_of(x, tail) else {
+            break;
+        };
+        left -= block.words as usize;
+        tail = block.tail;
+        c += 8;
     }
     let back = tail as usize;
     let next = c - back;

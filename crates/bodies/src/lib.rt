@@ -4,5 +4,6 @@
 mod bodies;
 mod hexes;
 mod rows;
+mod words;
 
 pub use bodies::body_at;

@@ -7,7 +7,8 @@ ghost use Rattle.report.specs.Report.{report_of};
 ghost use Rattle.writer.specs.Writer.{flat_mesh};
 ghost use Rattle.boundary.specs.Flat.{Left, read_left, Kept, audit_kept, Written, write_left};
 
-use answers::{answer_audit, answer_read, answer_write, copy_words};
+use answers::{answer_audit, answer_read, answer_write};
+use stores::copy_into;
 
 // Words in a zone record.
 const ZONE_WORDS: usize = 6;
@@ -29,7 +30,7 @@ pub extern "C" fn ravneket_read(
     let found = filling::read_flat(text, mantissas, exponents, faces, cells, room);
     let flat = found.flat;
     let used = ZONE_WORDS * found.zones;
-    copy_words(&flat[..used], zones);
+    copy_into(&flat[..used], zones);
     let reply = found.reply;
     answer_read(reply, answer)
 }

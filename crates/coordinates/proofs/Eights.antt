@@ -1,14 +1,11 @@
 -- Digits of a coordinate taken eight at a time: the same number as one by one. Assumes nothing.
 use Prim.Native.Nat.{ℕ, suc, ◌+◌, ◌-◌, ◌*◌, ◌^◌, ◌≤◌, ◌<◌, min}
-use native.Mathlib.Nat.{pow-zero, pow-succ', mul-one, mul_assoc, add-mul, lt_of_lt_of_le, pow-le-pow_right, mul-le-mul_right}
+use native.Mathlib.Nat.{pow-zero, pow-succ', mul-one, mul_assoc, add-mul, pow-le-pow_right, mul-le-mul_right}
 use native.Mathlib.Omega.{arith}
 use mathlib.Core.Path.{◌≡◌, refl, sym, ap, ap₂, subst, ◌∙◌}
 use mathlib.Core.List.{List, [], ◌∷◌, ◌++◌, append_assoc}
-use mathlib.Core.Bool.{false}
 use borrow.Author.Tests.{lt-ltb, ltb-true, ltb-false}
-use lib.Dec.{ltb, lit<, lit≤}
-use mir.Syntax.{w64}
-use mir.Val.{Fits}
+use lib.Dec.{ltb, lit<}
 use lib.ListN.{length, take, drop, length-append, length-take, length-drop, take-append-drop, drop_of_length-le}
 use lib.Seq.{drop-drop, drop-append_seam}
 use Rattle.facts.proofs.Branch.{split}
@@ -16,8 +13,9 @@ use Rattle.coordinates.specs.declared.scan.Scan.{Scan}
 use Rattle.digits.specs.declared.group.Group.{Group}
 use Rattle.digits.specs.Digits.{digit_of, Digits, digits, digits_in, Figures, worth}
 use Rattle.coordinates.specs.Behind.{behind_of}
+use Rattle.digits.specs.declared.group.Base.{Base}
 use Rattle.digits.specs.Lanes.{Laned, group_by, Grouped}
-use Rattle.coordinates.specs.Parts.{Wide, Stands, scan, joined, Roomy, Fair, Shows, Scanned}
+use Rattle.coordinates.specs.Parts.{Wide, Stands, joined, Roomy, Fair, Shows, Scanned}
 use Rattle.digits.proofs.Digits.{Run, Begins, NoDigit, digits_in_part, digits_in_below, digits_in_alike, digits_in_stops}
 use Rattle.coordinates.proofs.Scanning.{Runs, wide_more, shown}
 
@@ -85,7 +83,7 @@ module _ (w : List ℕ) (at : ℕ) where
       goes [] b h = subst (Begins (NoDigit 10)) (sym (drop_of_length-le (drop at w) {i = 8} (omega (arith, length-drop at w, h refl)))) tt
       goes (c ∷ l) b h = b
 
-  pub found : (x : ℕ) (g : Group) → Laned front x → Grouped false x g → Found w at g
+  pub found : (x : ℕ) (g : Group) → Laned front x → Grouped Base.Ten x g → Found w at g
   found x g l s =
       let e = s.says front l (omega (arith, length-take 8 (drop at w))) in
       found_by g (digits_in 10 0 0 front) e (digits_in_part 10 front 0 0) (digits_in_stops 10 front 0 0)
@@ -157,17 +155,6 @@ many_on w from x r k s =
       fair = s.fair;
       shows = λ v h. let q = k v h in subst (λ (d : Digits). Shows w r d) q.same (s.shows q.number q.stands);
     }
-
--- ---- one state out of two
-module _ (x : Scan) (g : Group) (p : ℕ) (e : p ≡ 10 ^ g.count) where
-  pub joined_fits : Roomy x g → Fits w64 (x.m * p + g.value)
-  joined_fits y = record { fits = lt_of_lt_of_le (subst (λ (k : ℕ). x.m * k + g.value < 10 ^ 18) (sym e) (below x.m g.count g.value y.less y.few y.small)) (lit≤ tt) }
-
-  pub joined_is : scan (x.m * p + g.value) x.tail x.over (x.count + g.count) (x.next + g.count) ≡ joined x g
-  joined_is = ap (λ (k : ℕ). scan (x.m * k + g.value) x.tail x.over (x.count + g.count) (x.next + g.count)) e
-
-pub lower : (n k : ℕ) → n ≤ suc k → (n ≡ suc k → ⊥) → n ≤ k
-lower n k h d = omega (arith, d)
 
 -- ---- places only
 module _ (w : List ℕ) (at : ℕ) (g : Group) (o : Found w at g) where

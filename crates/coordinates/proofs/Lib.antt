@@ -1,5 +1,4 @@
 mod Places
-mod Exponent
 mod Scanning
 mod Kept
 mod Words

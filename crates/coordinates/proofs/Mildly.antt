@@ -1,5 +1,6 @@
 -- A coordinate that is good whatever it says: what the code that looks at its shape finds. Assumes nothing.
-use Prim.Native.Nat.{ℕ, ◌+◌, ◌-◌, ◌*◌, ◌≤◌, ◌<◌}
+use Rattle.std.specs.Prelude.{Option, Some, None}
+use Prim.Native.Nat.{ℕ, ◌+◌, ◌-◌, ◌*◌, ◌≤◌, ◌<◌, max}
 use native.Mathlib.Numerals.{add-one}
 use native.Mathlib.Omega.{arith}
 use mathlib.Core.Path.{◌≡◌, sym, ap, subst, ◌∙◌}
@@ -7,14 +8,12 @@ use mathlib.Core.List.{List, []}
 use mathlib.Core.Bool.{Bool, true, false, ◌&&◌}
 use borrow.Author.Tests.{ltb-true, ltb-false, le-leb, lt-leb}
 use lib.Dec.{ltb, leb}
-use lib.IntN.{pos}
+use lib.IntN.{ℤ, pos}
 use lib.ListN.{length, drop, get_or, length-append, length-drop, drop_of_length-le}
 use lib.Seq.{drop-cons, drop-drop, drop_at}
 use Rattle.facts.proofs.Branch.{split, either, differ}
-use Rattle.decimals.specs.declared.decimal.Power.{Power}
-use Rattle.coordinates.specs.declared.power.PowerLead.{PowerLead}
-use Rattle.coordinates.specs.declared.scan.Sign.{Sign}
-use Rattle.decimals.specs.declared.decimal.Mild.{Mild}
+use Rattle.facts.specs.declared.Taken.{Taken}
+use Rattle.coordinates.specs.declared.sign.Sign.{Sign}
 use Rattle.digits.specs.Digits.{within, digit_of, Digits, digits_in}
 use Rattle.decimals.specs.Coordinate.{Signed, sign_in, fraction_in, is_mark, front_of, back_of}
 use Rattle.decimals.specs.Lead.{Leading, leading, tens_by, marked_in, power_in, tens_of, lead_of}
@@ -44,6 +43,14 @@ module _ (w : List ℕ) (i : ℕ) where
         let m = digits_in_more w i 10 0 0 d h e t in
         let a = digits_in_alike 10 (drop (i + 1) w) (0 * 10 + d) 0 (0 + 1) 0 in
         omega (arith, a.0, ap (λ (d : Digits). d.count) m)
+
+-- digits up to the end
+pub behind_end : (w : List ℕ) (at i m : ℕ) → m ≡ max at (length w) → at ≤ i → (at ≤ length w → i ≤ length w) → length w ≤ i → behind_of w i ≡ behind_of w at
+    → m ≡ behind_of w at
+behind_end w at i m e low high end b =
+    split (ltb (length w) at)
+    (λ p. let h = ltb-true (length w) at p in let z : m ≡ at = omega arith in z ∙ behind_past w at (omega arith))
+    (λ p. let h = ltb-false (length w) at p in let z : m ≡ i = omega (arith, high h) in z ∙ behind_past w i end ∙ b)
 
 -- the place behind digits, and the bytes from there on
 pub behind_rest : (w : List ℕ) (at : ℕ) → drop (behind_of w at) w ≡ (digits_in 10 0 0 (drop at w)).rest
@@ -87,30 +94,30 @@ module _ (w : List ℕ) (at : ℕ) where
   point_within h = either (λ i. i ≤ length w) (starts 46 (drop at w)) (λ t. omega (arith, point_in t)) (λ _. h)
 
 -- ---- a power
-abbrev chosen : Bool → ℕ → Mild
-chosen t n = elim t [ true ↦ Mild.To n | false ↦ Mild.Not ]
+abbrev chosen : Bool → ℕ → Option ℕ
+chosen t n = elim t [ true ↦ Some n | false ↦ None ]
 
 module _ (w l : List ℕ) where
-  tens_not : small_power l ≡ false → Mild.Not ≡ tens_to w l
+  tens_not : small_power l ≡ false → None ≡ tens_to w l
   unfolding tens_to
   tens_not h = rw (h, tens_to)
 
-  tens_led : small_power l ≡ true → (p : PowerLead) → PowerAt w p (power_in l) → Mild.To p.next ≡ tens_to w l
+  tens_led : small_power l ≡ true → (p : Taken (Option ℤ)) → PowerAt w p (power_in l) → Some p.next ≡ tens_to w l
   unfolding tens_to
   tens_led h p t =
       let n : p.next ≡ length w - length (power_in l).rest = omega (arith, t.within, length-drop p.next w, ap (λ (x : Leading). length x.rest) t.says) in
-      rw (h, tens_to) (ap Mild.To n)
+      rw (h, tens_to) (ap Some n)
 
-abbrev none_to : ℕ → PowerLead
-none_to n = record { power = Power.Is (pos 0); next = n }
+abbrev none_to : ℕ → Taken (Option ℤ)
+none_to n = record { value = Some (pos 0); next = n }
 
 module _ (w : List ℕ) (at : ℕ) where
-  pub power_past : length w ≤ at → at ≤ length w → Mild.To at ≡ tens_to w (drop at w)
+  pub power_past : length w ≤ at → at ≤ length w → Some at ≡ tens_to w (drop at w)
   unfolding small_power
   power_past h l = tens_led w (drop at w) (ap small_power (drop_of_length-le w h)) (none_to at) (past_lead w at h l)
 
   module _ (h : at < length w) where
-    pub power_plain : is_mark (get_or w at 0) ≡ false → Mild.To at ≡ tens_to w (drop at w)
+    pub power_plain : is_mark (get_or w at 0) ≡ false → Some at ≡ tens_to w (drop at w)
     unfolding small_power
     power_plain m = tens_led w (drop at w) (rw (drop-cons w at 0 h, m, small_power)) (none_to at) (plain_lead w at h m)
 
@@ -132,22 +139,22 @@ module _ (w : List ℕ) (at : ℕ) where
       unfolding small_power
       small_is = rw (drop-cons w at 0 h, add-one at, m, small_power)
 
-      pub power_few : n - s.next < 1 → Mild.Not ≡ tens_to w (drop at w)
+      pub power_few : n - s.next < 1 → None ≡ tens_to w (drop at w)
       power_few l = tens_not w (drop at w) (small_is ∙ ap (λ t. t && leb marked.count 2) (lt-leb 1 marked.count (omega (arith, marked_at))))
 
-      pub power_many : 2 < n - s.next → Mild.Not ≡ tens_to w (drop at w)
+      pub power_many : 2 < n - s.next → None ≡ tens_to w (drop at w)
       power_many l =
           tens_not w (drop at w)
           (small_is ∙ (λ i. le-leb 1 marked.count (omega (arith, marked_at)) i && lt-leb marked.count 2 (omega (arith, marked_at)) i))
 
-      pub power_found : 1 ≤ n - s.next → n - s.next ≤ 2 → Mild.To n ≡ tens_to w (drop at w)
+      pub power_found : 1 ≤ n - s.next → n - s.next ≤ 2 → Some n ≡ tens_to w (drop at w)
       unfolding marked_in
       power_found l k =
           let p = tens_by (sign_in (drop (at + 1) w)).negative marked in
           let r : drop n w ≡ marked.rest = ap (λ i. drop i w) e ∙ behind_rest w s.next ∙ ap (λ (d : Digits). d.rest) marked_is in
           tens_led w (drop at w)
           (small_is ∙ (λ i. le-leb 1 marked.count (omega (arith, marked_at)) i && le-leb marked.count 2 (omega (arith, marked_at)) i))
-          (record { power = p; next = n })
+          (record { value = p; next = n })
           (marked_lead w at h m _ (record { says = ap (leading p) r; within = subst (λ i. i ≤ length w) (sym e) (behind_within w s.next g.within) }))
 
 -- ---- all of it
@@ -155,11 +162,11 @@ module _ (w : List ℕ) where
   abbrev test : Bool
   test = leb (length w) 64 && (few_digits w && small_power (back_of w).rest)
 
-  mild_not : test ≡ false → Mild.Not ≡ mild_of w
+  mild_not : test ≡ false → None ≡ mild_of w
   unfolding mild_of
   mild_not h = rw (h, mild_of)
 
-  pub mild_long : 64 < length w → Mild.Not ≡ mild_of w
+  pub mild_long : 64 < length w → None ≡ mild_of w
   mild_long h = mild_not (ap (λ t. t && (few_digits w && small_power (back_of w).rest)) (lt-leb (length w) 64 h))
 
   next_is : length w ≤ 64 → (lead_of w).next ≡ length w - length (tens_of w).rest
@@ -211,20 +218,29 @@ module _ (w : List ℕ) where
     short : {A : Type 0} (f : Bool → A) → f test ≡ f (few_digits w && small_power (back_of w).rest)
     short f = ap (λ t. f (t && (few_digits w && small_power (back_of w).rest))) (le-leb (length w) 64 l)
 
-    pub mild_none : point - s.next + (end - behind) < 1 → Mild.Not ≡ mild_of w
+    pub mild_none : point - s.next + (end - behind) < 1 → None ≡ mild_of w
     mild_none h =
         mild_not
         (short (λ t. t) ∙ ap (λ t. t && leb ((front_of w).count + (back_of w).count) 18 && small_power (back_of w).rest) (lt-leb 1 ((front_of w).count + (back_of w).count) (omega (arith, digits_are))))
 
-    pub mild_many : 18 < point - s.next + (end - behind) → Mild.Not ≡ mild_of w
+    pub mild_many : 18 < point - s.next + (end - behind) → None ≡ mild_of w
     mild_many h =
         mild_not
         (short (λ t. t)
         ∙ (λ i. (le-leb 1 ((front_of w).count + (back_of w).count) (omega (arith, digits_are)) i && lt-leb ((front_of w).count + (back_of w).count) 18 (omega (arith, digits_are)) i) && small_power (back_of w).rest))
 
-    pub mild_found : 1 ≤ point - s.next + (end - behind) → point - s.next + (end - behind) ≤ 18 → (r : Mild) → r ≡ tens_to w (drop end w) → r ≡ mild_of w
+    pub mild_found : 1 ≤ point - s.next + (end - behind) → point - s.next + (end - behind) ≤ 18 → (r : Option ℕ) → r ≡ tens_to w (drop end w) → r ≡ mild_of w
     unfolding mild_of tens_to
     mild_found h k r q =
         let few : few_digits w ≡ true = λ i. le-leb 1 ((front_of w).count + (back_of w).count) (omega (arith, digits_are)) i && le-leb ((front_of w).count + (back_of w).count) 18 (omega (arith, digits_are)) i in
         q ∙ ap (tens_to w) end_rest ∙ ap (chosen (small_power (back_of w).rest)) (sym (next_is l))
         ∙ sym (short (λ t. chosen t (lead_of w).next) ∙ ap (λ t. chosen (t && small_power (back_of w).rest) (lead_of w).next) few)
+
+-- what `digits_behind` passes
+pub ruleset digits_passed = (behind_more, behind_stop, behind_end)
+
+-- what `point_behind` passes
+pub ruleset point_passed = (point_in, point_yes, point_no)
+
+-- what `power_behind` passes
+pub ruleset power_passed = (power_past, power_plain, count_fits, power_few, power_many, power_found)

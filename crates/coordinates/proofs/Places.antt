@@ -1,4 +1,5 @@
 -- The parts of a word by places: what the code that stands at a place of the word needs of the definitions. Assumes nothing.
+use Rattle.std.specs.Prelude.{Some, None}
 use Prim.Native.Nat.{ℕ, ◌+◌, ◌≤◌, ◌<◌}
 use native.Mathlib.Numerals.{add-one}
 use native.Mathlib.Omega.{arith}
@@ -12,7 +13,6 @@ use lib.ListN.{length, drop, get_or, drop_of_length-le}
 use lib.Seq.{drop-cons}
 use Rattle.facts.proofs.Branch.{split, differ}
 use Rattle.coordinates.specs.declared.scan.Scan.{Scan}
-use Rattle.decimals.specs.declared.decimal.Power.{Power}
 use Rattle.digits.specs.Digits.{digits_in}
 use Rattle.decimals.specs.Coordinate.{sign_in, fraction_in, is_mark, marked_of, power_of}
 use Rattle.decimals.specs.Value.{unsigned}
@@ -69,7 +69,7 @@ module _ (w : List ℕ) (at : ℕ) where
   point_here v t = rw (drop-cons w at 0 (within 46 t), add-one at, byte_is 46 t, fraction_in)
 
   -- ---- a power
-  pub power_none : length w ≤ at → Power.Is (pos 0) ≡ power_of (drop at w)
+  pub power_none : length w ≤ at → Some (pos 0) ≡ power_of (drop at w)
   unfolding power_of
   power_none h = rw (drop_of_length-le w h)
 
@@ -77,7 +77,7 @@ module _ (w : List ℕ) (at : ℕ) where
   unfolding power_of
   power_marked h t = rw (drop-cons w at 0 h, add-one at, t, power_of)
 
-  pub power_bad : at < length w → is_mark (get_or w at 0) ≡ false → Power.Not ≡ power_of (drop at w)
+  pub power_bad : at < length w → is_mark (get_or w at 0) ≡ false → None ≡ power_of (drop at w)
   unfolding power_of
   power_bad h t = rw (drop-cons w at 0 h, t, power_of)
 
@@ -106,3 +106,6 @@ module _ (w : List ℕ) (x : Scan) (f : Fair w x) where
             rw (fraction_in_none v (drop x.next w) (not_point (drop x.next w) n))
             (record { value = behind_stands x _ v h; count = refl; rest = refl });
       }
+
+-- what `power_at` finds
+pub ruleset powers = (power_none, power_marked, power_bad)

@@ -8,7 +8,8 @@ use mathlib.Core.List.{List}
 use mathlib.Core.Bool.{true}
 use borrow.Author.Tests.{ltb-true, ltb-false, eqb-true, eqb-false}
 use lib.Dec.{ltb, eqb}
-use lib.ListN.{length, drop, get_or}
+use lib.ListN.{length, take, drop, get_or, length-drop}
+use lib.Seq.{take_all, get_or-drop}
 use Rattle.facts.proofs.Branch.{split, either, differ}
 use Rattle.coordinates.specs.declared.scan.Scan.{Scan}
 use Rattle.digits.specs.Digits.{digit_of, Digits, digits, digits_in}
@@ -91,8 +92,22 @@ Runs w from x = (v : ℕ) → Stands from v → Going w x (digits_in 10 v from.c
 pub scan_start : (w : List ℕ) (x : Scan) → Fair w x → Fair w x × Runs w x x
 scan_start w x f = (f, λ v h. record { number = v; stands = h; same = refl })
 
-pub scan_less : (w : List ℕ) (x r : Scan) (d : ℕ) → r ≡ grown x d → x.next < length w → length w - r.next < length w - x.next
-scan_less w x r d q h = omega (arith, ap (λ (r : Scan). r.next) q, grown_more x d)
+pub scan_next : (x r : Scan) (d n i : ℕ) → r ≡ grown x d → x.next ≡ n + i → r.next ≡ n + (i + 1)
+scan_next x r d n i q e = omega (arith, ap (λ (r : Scan). r.next) q, (grown_more x d).0)
+
+-- the bytes from a place on are those behind it
+pub rest_is : (w : List ℕ) (n : ℕ) → take (length w - n) (drop n w) ≡ drop n w
+rest_is w n = take_all (length w - n) (drop n w) (omega (arith, length-drop n w))
+
+module _ (w : List ℕ) (n i k : ℕ) (e : k ≡ n + i) where
+  pub rest_more : i < length (take (length w - n) (drop n w)) → k < length w
+  rest_more h = omega (arith, h, ap length (rest_is w n), length-drop n w)
+
+  pub rest_end : n ≤ length w → length (take (length w - n) (drop n w)) ≤ i → length w ≤ k
+  rest_end l h = omega (arith, h, ap length (rest_is w n), length-drop n w)
+
+  pub rest_at : get_or (take (length w - n) (drop n w)) i 0 ≡ get_or w k 0
+  rest_at = ap (λ l. get_or l i 0) (rest_is w n) ∙ get_or-drop n w i 0 ∙ ap (λ k. get_or w k 0) (sym e)
 
 module _ (w : List ℕ) (from x : Scan) (f : Fair w x) (g : Runs w from x) where
   pub shown : ((v : ℕ) → digits v x.count (drop x.next w) ≡ digits_in 10 v x.count (drop x.next w))

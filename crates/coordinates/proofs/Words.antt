@@ -1,5 +1,6 @@
 -- A whole coordinate word: what its parts, read one behind the other, say together. Assumes nothing.
-use Prim.Native.Nat.{ℕ, ◌+◌, ◌^◌, ◌≤◌, ◌<◌}
+use Rattle.std.specs.Prelude.{ℤ, Option, None}
+use Prim.Native.Nat.{ℕ, ◌+◌, ◌^◌, ◌≤◌}
 use native.Mathlib.Nat.{zero-mul}
 use native.Mathlib.Omega.{arith}
 use mathlib.Core.Path.{◌≡◌, refl, sym, ap, ◌∙◌}
@@ -8,8 +9,7 @@ use mathlib.Core.Bool.{false}
 use lib.Dec.{lit<}
 use lib.ListN.{length, drop}
 use Rattle.facts.proofs.Branch.{differ}
-use Rattle.decimals.specs.declared.decimal.Power.{Power}
-use Rattle.coordinates.specs.declared.scan.Sign.{Sign}
+use Rattle.coordinates.specs.declared.sign.Sign.{Sign}
 use Rattle.coordinates.specs.declared.scan.Scan.{Scan}
 use Rattle.decimals.specs.declared.decimal.Decimal.{Decimal}
 use Rattle.digits.specs.Digits.{digits_in}
@@ -43,11 +43,11 @@ module _ (w : List ℕ) (l : length w ≤ 64) (s : Sign) (g : SignAt w 0 s) wher
       pub counts : front.count + back.count ≡ (front_of w).count + (back_of w).count
       counts = omega (arith, front_shows.count, back_shows.count)
 
-      pub none_is : front.count + back.count ≡ 0 → Decimal.Not ≡ coordinate_of w
+      pub none_is : front.count + back.count ≡ 0 → None ≡ coordinate_of w
       unfolding reading_of
       none_is h = sym (ap kept (no_digits _ _ (back_of w) (power_of (back_of w).rest) (sym counts ∙ h))) ∙ short_is w l
 
-      pub found_is : (front.count + back.count ≡ 0 → ⊥) → (p : Power) → p ≡ power_of (drop back.next w) → (r : Decimal)
+      pub found_is : (front.count + back.count ≡ 0 → ⊥) → (p : Option ℤ) → p ≡ power_of (drop back.next w) → (r : Option Decimal)
           → ((v : ℕ) → Stands back v → r ≡ keep_by s.negative v back.count p) → r ≡ coordinate_of w
       unfolding reading_of
       found_is h p e r k =

@@ -1,11 +1,9 @@
 -- What the functions inside this crate owe one another. Nothing here has to be believed: the public contracts do not cite it. Assumes nothing.
-use Rattle.std.specs.Prelude.{ℕ, ◌+◌, ◌*◌, ◌%◌, ◌^◌, ◌≤◌, ◌<◌, ◌≡◌, List, [], ◌∷◌, Bool, true, false, length, drop, ltb, eqb}
+use Rattle.std.specs.Prelude.{ℕ, ◌+◌, ◌*◌, ◌%◌, ◌^◌, ◌≤◌, ◌<◌, ◌≡◌, List, [], ◌∷◌, Bool, true, false, length, drop, ltb, eqb, ℤ, Option, Some, None}
 use Rattle.std.specs.Int.Signed.{mag}
 use Rattle.sizes.specs.Sizes.{coordinate_bytes, coordinate_digits}
-use Rattle.numbers.specs.declared.whole.Whole.{Whole}
-use Rattle.decimals.specs.declared.decimal.Power.{Power}
-use Rattle.coordinates.specs.declared.power.PowerLead.{PowerLead}
-use Rattle.coordinates.specs.declared.scan.Sign.{Sign}
+use Rattle.facts.specs.declared.Taken.{Taken}
+use Rattle.coordinates.specs.declared.sign.Sign.{Sign}
 use Rattle.coordinates.specs.declared.scan.Scan.{Scan}
 use Rattle.digits.specs.declared.group.Group.{Group}
 use Rattle.decimals.specs.declared.decimal.Cut.{Cut}
@@ -24,8 +22,8 @@ pub record SignAt (w : List ℕ) (at : ℕ) (r : Sign) : Type 0 where
   pub within : r.next ≤ length w
 
 -- a power that was read at a place of the word: again the next place stands for the bytes from there on
-pub record PowerAt (w : List ℕ) (r : PowerLead) (l : Leading) : Type 0 where
-  pub says : leading r.power (drop r.next w) ≡ l
+pub record PowerAt (w : List ℕ) (r : Taken (Option ℤ)) (l : Leading) : Type 0 where
+  pub says : leading r.value (drop r.next w) ≡ l
   pub within : r.next ≤ length w
 
 -- d is core · 10 ^ zeros with more than 18 digits in core, of which the last is not 0
@@ -95,14 +93,14 @@ pub record Ready (x : Scan) : Type 0 where
   pub count : x.count ≤ 64
 
 -- a number below n, where it is one
-abbrev pub Below : ℕ → Whole → Type 0
-Below n (Whole.Is k) = k < n
-Below n Whole.Not = Unit
+abbrev pub Below : ℕ → Option ℕ → Type 0
+Below n (Some k) = k < n
+Below n None = Unit
 
 -- a power of at most three digits
-abbrev pub Mild : Power → Type 0
-Mild (Power.Is k) = mag k < 1000
-Mild Power.Not = Unit
+abbrev pub Mild : Option ℤ → Type 0
+Mild (Some k) = mag k < 1000
+Mild None = Unit
 
 -- d without the zeros at its end
 pub record CutOf (d : ℕ) (c : Cut) : Type 0 where

@@ -4,41 +4,30 @@ ghost use Rattle.decimals.specs.Lead.{lead_of};
 
 use super::finish::finish_by;
 use super::power::power_lead;
-use super::scan::{Scan, digits_from, fraction_from, sign_at};
-use decimals::{Decimal, Lead};
+use super::scan::{digits_from, fraction_from, none_at};
+use super::sign::sign_at;
+use decimals::Decimal;
+use facts::Taken;
 
-pub fn lead(w: &[u8]) -> Lead
+pub fn lead(w: &[u8]) -> Taken<Option<Decimal>>
     ensures { result ≡ lead_of w.now }
 {
     if sizes::COORDINATE_BYTES < w.len() {
-        return Lead {
-            decimal: Decimal::Not,
+        return Taken {
+            value: None,
             next: 0,
         };
     }
     let s = sign_at(w, 0);
-    let front = digits_from(
-        w,
-        Scan {
-            m: 0,
-            tail: 0,
-            over: false,
-            count: 0,
-            next: s.next,
-        },
-    );
+    let front = digits_from(w, none_at(s.next));
     let back = fraction_from(w, front);
     let at = back.next;
     let p = power_lead(w, at);
     let next = p.next;
     let digits = front.count + back.count;
     if digits == 0 {
-        return Lead {
-            decimal: Decimal::Not,
-            next,
-        };
+        return Taken { value: None, next };
     }
-    let k = p.power;
-    let d = finish_by(s.negative, back, k);
-    Lead { decimal: d, next }
+    let value = finish_by(s.negative, back, p.value);
+    Taken { value, next }
 }

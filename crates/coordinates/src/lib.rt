@@ -7,6 +7,7 @@ mod leads;
 mod mild;
 mod power;
 mod scan;
+mod sign;
 mod signed;
 mod word;
 

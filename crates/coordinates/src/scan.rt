@@ -1,10 +1,11 @@
 // The parts of a coordinate word, each read at a place of the word.
-ghost use Rattle.std.specs.Prelude.{◌≡◌, ◌^◌, ◌≤◌, ◌<◌, length, drop};
+ghost use Rattle.std.specs.Prelude.{◌≡◌, ◌^◌, ◌≤◌, ◌<◌, length, drop, false};
 ghost use Rattle.digits.specs.Digits.{digits_in};
 ghost use Rattle.decimals.specs.Coordinate.{fraction_in};
-ghost use Rattle.coordinates.specs.Parts.{starts, SignAt, Fair, Scanned, grown, joined, Roomy};
+ghost use Rattle.coordinates.specs.Parts.{Fair, Scanned, grown, joined, Roomy, scan};
 
-use digits::{Group, bytes_at, group_of};
+use super::sign::stands_at;
+use digits::{Base, Group, bytes_at, group_of};
 use numbers::digit_of;
 
 // With 17 digits in m there is room for one more.
@@ -13,14 +14,10 @@ const ROOM: u64 = 100000000000000000;
 // With 10 digits in m there is room for eight more.
 const WIDE_ROOM: u64 = 10000000000;
 
-#[derive(Clone, Copy)]
-pub(crate) struct Sign {
-    pub negative: bool,
-    pub next: usize,
-}
-
 // The digits so far: m, then `tail` zeros; or `over`, more than 18 digits once the zeros are
 // dropped. `count` of them were read since the last point, and `next` is the place behind them.
+// `over` is a flag and no variant: the count and the place go on just the same, and most digits
+// leave it alone.
 #[derive(Clone, Copy)]
 pub(crate) struct Scan {
     pub m: u64,
@@ -30,41 +27,21 @@ pub(crate) struct Scan {
     pub next: usize,
 }
 
-// Does this byte stand at this place?
-pub(crate) fn stands_at(w: &[u8], at: usize, b: u8) -> bool
-    ensures { result ≡ starts b (drop at w.now) }
+// No digit read yet, at this place.
+pub(crate) fn none_at(next: usize) -> Scan
+    ensures { result ≡ scan 0 0 false 0 next }
 {
-    if at < w.len() {
-        return w[at] == b;
-    }
-    false
-}
-
-pub(crate) fn sign_at(w: &[u8], at: usize) -> Sign
-    requires { at ≤ length w.now }
-    ensures { SignAt w.now at result }
-{
-    if stands_at(w, at, 45) {
-        let next = at + 1;
-        return Sign {
-            negative: true,
-            next,
-        };
-    }
-    if stands_at(w, at, 43) {
-        let next = at + 1;
-        return Sign {
-            negative: false,
-            next,
-        };
-    }
-    Sign {
-        negative: false,
-        next: at,
+    Scan {
+        m: 0,
+        tail: 0,
+        over: false,
+        count: 0,
+        next,
     }
 }
 
 // One more digit: into m while there is room, then only a zero may come.
+#[tactic(auto, unfolding(crate::specs::Parts::grown))]
 fn grow(x: Scan, d: u32) -> Scan
     requires { (d < 10) × (x.next < 64) × (x.tail ≤ x.next) × (x.count ≤ x.next) }
     ensures { result ≡ grown x d }
@@ -72,31 +49,28 @@ fn grow(x: Scan, d: u32) -> Scan
     let count = x.count + 1;
     let next = x.next + 1;
     if x.m < ROOM {
-        let m = x.m * 10 + d as u64;
+        let m = x.m * 10 + u64::from(d);
         return Scan {
             m,
-            tail: x.tail,
-            over: x.over,
             count,
             next,
+            ..x
         };
     }
     if d == 0 {
         let tail = x.tail + 1;
         return Scan {
-            m: x.m,
             tail,
-            over: x.over,
             count,
             next,
+            ..x
         };
     }
     Scan {
-        m: x.m,
-        tail: x.tail,
         over: true,
         count,
         next,
+        ..x
     }
 }
 
@@ -105,48 +79,31 @@ pub(crate) fn digits_from(w: &[u8], from: Scan) -> Scan
     ensures { Scanned w.now from result (λ v. digits_in 10 v from.count (drop from.next w.now)) }
 {
     let mut x = from;
-    loop {
-        let at = x.next;
-        if w.len() <= at {
-            return x;
-        }
-        let d = digit_of(w[at]);
+    for b in &w[from.next..] {
+        let d = digit_of(*b);
         if 10 <= d {
             return x;
         }
         x = grow(x, d);
     }
+    x
 }
 
 fn ten_to(n: u32) -> u64
     requires { n ≤ 8 }
     ensures { result ≡ 10 ^ n }
 {
-    if n == 8 {
-        return 100000000;
+    match n {
+        0 => 1,
+        1 => 10,
+        2 => 100,
+        3 => 1000,
+        4 => 10000,
+        5 => 100000,
+        6 => 1000000,
+        7 => 10000000,
+        _ => 100000000,
     }
-    if n == 7 {
-        return 10000000;
-    }
-    if n == 6 {
-        return 1000000;
-    }
-    if n == 5 {
-        return 100000;
-    }
-    if n == 4 {
-        return 10000;
-    }
-    if n == 3 {
-        return 1000;
-    }
-    if n == 2 {
-        return 100;
-    }
-    if n == 1 {
-        return 10;
-    }
-    1
 }
 
 fn join(x: Scan, g: Group) -> Scan
@@ -161,14 +118,13 @@ fn join(x: Scan, g: Group) -> Scan
     let next = x.next + step;
     Scan {
         m,
-        tail: x.tail,
-        over: x.over,
         count,
         next,
+        ..x
     }
 }
 
-// As `digits_from`, eight bytes at a time while there is room for eight digits.
+// As `digits_from`, eight bytes at a time while there is room for eight digits; by places, since it stops where the room ends, within a chunk or not.
 fn many_from(w: &[u8], from: Scan) -> Scan
     requires { Fair w.now from }
     ensures { Scanned w.now from result (λ v. digits_in 10 v from.count (drop from.next w.now)) }
@@ -177,7 +133,7 @@ fn many_from(w: &[u8], from: Scan) -> Scan
     while x.m < WIDE_ROOM {
         let at = x.next;
         let bytes = bytes_at(w, at);
-        let g = group_of(bytes, false);
+        let g = group_of(bytes, Base::Ten);
         let n = g.count;
         if n == 8 {
             x = join(x, g);
@@ -194,24 +150,16 @@ pub(crate) fn fraction_from(w: &[u8], x: Scan) -> Scan
     ensures { Scanned w.now x result (λ v. fraction_in v (drop x.next w.now)) }
 {
     let at = x.next;
-    if stands_at(w, at, 46) {
+    if stands_at(w, at, b'.') {
         let next = at + 1;
         return many_from(
             w,
             Scan {
-                m: x.m,
-                tail: x.tail,
-                over: x.over,
                 count: 0,
                 next,
+                ..x
             },
         );
     }
-    Scan {
-        m: x.m,
-        tail: x.tail,
-        over: x.over,
-        count: 0,
-        next: at,
-    }
+    Scan { count: 0, ..x }
 }

@@ -13,26 +13,17 @@ pub(crate) fn with_sign(negative: bool, m: u64) -> i64
     m as i64
 }
 
-pub(crate) fn with_sign32(negative: bool, m: u32) -> i32
-    requires { m < 2 ^ 31 }
-    ensures { result ≡ sign_of negative m }
-{
-    if negative {
-        return -(m as i32);
-    }
-    m as i32
-}
-
 // A power k, less the places behind the point, and the zeros dropped at the end.
-pub(crate) fn exponent_of(k: i32, places: u32, zeros: u32) -> i32
+pub(crate) fn exponent_of(k: i64, places: u32, zeros: u32) -> i64
     requires { (mag k < 1000) × (places ≤ 64) × (zeros < 82) }
     ensures { result ≡ (k -ℤ pos places) +ℤ pos zeros }
 {
-    k - (places as i32) + (zeros as i32)
+    k - i64::from(places) + i64::from(zeros)
 }
 
-pub(crate) fn in_range(e: i32) -> bool
+#[tactic(auto, unfolding(decimals::specs::Coordinate::in_range))]
+pub(crate) fn in_range(e: i64) -> bool
     ensures { result ≡ in_range e }
 {
-    -400 <= e && e <= 400
+    (-400..=400).contains(&e)
 }

@@ -1,4 +1,6 @@
 -- Closed cases: the paper's coordinate words; and of the function that only our own crates call what its contract answers on an input, and what a wrong program would have answered there. Assumes nothing.
+use Rattle.std.specs.Prelude.{Option, None}
+use Rattle.decimals.specs.Coordinate.{decimal}
 use Prim.Native.Nat.{ℕ}
 use mathlib.Core.Path.{◌≡◌, refl, ap, ◌∙◌}
 use mathlib.Core.List.{List, [], ◌∷◌, map}
@@ -12,27 +14,27 @@ use Rattle.decimals.proofs.signed.magnitude.Reads as magnitudes
 
 pub record Case : Type 0 where
   pub word : List ℕ
-  pub kept : Decimal
+  pub kept : Option Decimal
 
-abbrev is : List ℕ → Decimal → Case
+abbrev is : List ℕ → Option Decimal → Case
 is w d = record { word = w; kept = d }
 
 -- [01:Both sides of each line], those that are not marked P; the others are in the table of `vectors`
 abbrev pub table : List Case
 table =
-    is (bytes ".5") (Decimal.Is (pos 5) (negsuc 0))
-    ∷ is (bytes "5.") (Decimal.Is (pos 5) (pos 0))
-    ∷ is (bytes ".") Decimal.Not
-    ∷ is (bytes "1e") Decimal.Not
-    ∷ is (bytes "1e1000") Decimal.Not
-    ∷ is (bytes "nan") Decimal.Not
+    is (bytes ".5") (decimal (pos 5) (negsuc 0))
+    ∷ is (bytes "5.") (decimal (pos 5) (pos 0))
+    ∷ is (bytes ".") None
+    ∷ is (bytes "1e") None
+    ∷ is (bytes "1e1000") None
+    ∷ is (bytes "nan") None
     -- "Eighteen nines pass, nineteen don't."
-    ∷ is (bytes "999999999999999999") (Decimal.Is (pos 999999999999999999) (pos 0))
-    ∷ is (bytes "9999999999999999999") Decimal.Not
+    ∷ is (bytes "999999999999999999") (decimal (pos 999999999999999999) (pos 0))
+    ∷ is (bytes "9999999999999999999") None
     -- besides: the sign and the zeros at the end; the kept exponent is judged, 401 here, and not the written one
-    ∷ is (bytes "-120") (Decimal.Is (negsuc 11) (pos 1))
-    ∷ is (bytes "100e399") Decimal.Not
-    ∷ is (bytes "1e401") Decimal.Not
+    ∷ is (bytes "-120") (decimal (negsuc 11) (pos 1))
+    ∷ is (bytes "100e399") None
+    ∷ is (bytes "1e401") None
     ∷ []
 
 pub cases : map (λ c. coordinate_of c.word) table ≡ map (λ c. c.kept) table

@@ -1,4 +1,6 @@
 -- A coordinate is accepted exactly when the word means a pair, and then it is that pair; no word means two. Assumes nothing.
+use Rattle.std.specs.Prelude.{None}
+use Rattle.decimals.specs.Coordinate.{decimal}
 use Prim.Native.Nat.{ℕ, ◌≤◌}
 use native.Mathlib.Omega.{arith}
 use mathlib.Core.Path.{◌≡◌, refl}
@@ -9,23 +11,22 @@ use lib.Dec.{leb}
 use lib.IntN.{ℤ}
 use lib.ListN.{length}
 use Rattle.facts.proofs.Branch.{either}
-use Rattle.decimals.specs.declared.decimal.Decimal.{Decimal}
 use Rattle.decimals.specs.Coordinate.{Reading, is, none, reading_of, kept, coordinate_of}
 use Rattle.decimals.specs.Value.{Means}
 use Rattle.decimals.proofs.Written.{reading_of_exactly}
 use Rattle.decimals.proofs.Value.{keep_exactly, same_pair}
 
-pub not_kept : {A : Type 0} (m e : ℤ) → Decimal.Not ≡ Decimal.Is m e → A
+pub not_kept : {A : Type 0} (m e : ℤ) → None ≡ decimal m e → A
 not_kept m e h = absurd (let z : ◌≡◌ {A = ℕ} 0 1 = cc in omega arith)
 
 module _ (w : List ℕ) (m e : ℤ) where
-  kept_means : length w ≤ 64 → (r : Reading) → reading_of w ≡ r → kept r ≡ Decimal.Is m e → Means w m e
+  kept_means : length w ≤ 64 → (r : Reading) → reading_of w ≡ r → kept r ≡ decimal m e → Means w m e
   kept_means l none q h = not_kept m e h
   kept_means l (is p) q h =
       let k = (keep_exactly p.negative p.digits p.exponent m e).0 h in
       record { short = l; parts = p; written = (reading_of_exactly w p).0 q; value = k.0; canonical = k.1 }
 
-  means_kept : Means w m e → coordinate_of w ≡ Decimal.Is m e
+  means_kept : Means w m e → coordinate_of w ≡ decimal m e
   unfolding coordinate_of
   means_kept h =
       let p = h.parts in
@@ -33,10 +34,10 @@ module _ (w : List ℕ) (m e : ℤ) where
       ((keep_exactly p.negative p.digits p.exponent m e).1 (h.value, h.canonical))
 
   -- the law
-  pub coordinate_of_exactly : (coordinate_of w ≡ Decimal.Is m e) ↔ Means w m e
+  pub coordinate_of_exactly : (coordinate_of w ≡ decimal m e) ↔ Means w m e
   unfolding coordinate_of
   coordinate_of_exactly = (
-    either (λ r. r ≡ Decimal.Is m e → Means w m e) (leb (length w) 64)
+    either (λ r. r ≡ decimal m e → Means w m e) (leb (length w) 64)
         (λ p. kept_means (leb-true _ _ p) (reading_of w) refl) (λ _ h. not_kept m e h),
     means_kept,
   )

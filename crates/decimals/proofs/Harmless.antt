@@ -1,4 +1,6 @@
 -- A mild coordinate is good: with at most 18 digits and a power of at most 2 it is kept, whatever they are. Assumes nothing.
+use Rattle.std.specs.Prelude.{Option, Some, None}
+use Rattle.decimals.specs.Coordinate.{decimal}
 use Prim.Native.Nat.{ℕ, ◌+◌, ◌^◌, ◌≤◌, ◌<◌}
 use native.Mathlib.Nat.{pow-zero, pow-le-pow_right, mul-one}
 use native.Mathlib.Omega.{arith}
@@ -13,9 +15,7 @@ use lib.Signed.{mag}
 use Rattle.facts.proofs.Branch.{split, either, both, differ}
 use Rattle.facts.proofs.Decides.{and_split}
 use Rattle.facts.proofs.Signed.{mag_neg, mag_sum}
-use Rattle.decimals.specs.declared.decimal.Power.{Power}
 use Rattle.decimals.specs.declared.decimal.Decimal.{Decimal}
-use Rattle.decimals.specs.declared.decimal.Mild.{Mild}
 use Rattle.digits.specs.Digits.{Digits}
 use Rattle.decimals.specs.Coordinate.{sign_of, sign_in, fraction_in, is_mark, reading_by, front_of, back_of, in_range, keep, kept, keep_by}
 use Rattle.decimals.specs.Lead.{Leading, marked_in, power_in, tens_of, lead_of}
@@ -27,10 +27,10 @@ use Rattle.decimals.proofs.Value.{keep_zero, keep_tens, fitted_in}
 use Rattle.decimals.proofs.Readings.{some_digits, few_small, tens_is, mild_sign}
 
 -- ---- what is kept of a number of few digits
-pub record Kept (d : Decimal) : Type 0 where
+pub record Kept (d : Option Decimal) : Type 0 where
   pub mantissa : ℤ
   pub exponent : ℤ
-  pub is : d ≡ Decimal.Is mantissa exponent
+  pub is : d ≡ decimal mantissa exponent
 
 in_range_lem : (e : ℤ) → mag e < 400 → in_range e ≡ true
 unfolding in_range
@@ -58,9 +58,9 @@ module _ (n : Bool) (v : ℕ) (e : ℤ) (less : v < 10 ^ 18) (near : mag e < 300
       (λ p. cut_kept (tens_of_lem v v (omega arith) (omega (arith, eqb-false v 0 p))))
 
 -- ---- the power
-record Near (p : Power) : Type 0 where
+record Near (p : Option ℤ) : Type 0 where
   pub tens : ℤ
-  pub is : p ≡ Power.Is tens
+  pub is : p ≡ Some tens
   pub less : mag tens < 100
 
 small_near : (l : List ℕ) → small_power l ≡ true → Near (power_in l).power
@@ -93,25 +93,25 @@ back_less w h =
     )
 
 -- ---- all of it
-abbrev place_of : Mild → ℕ
-place_of (Mild.To n) = n
-place_of Mild.Not = 0
+abbrev place_of : Option ℕ → ℕ
+place_of (Some n) = n
+place_of None = 0
 
-abbrev is_to : Mild → Bool
-is_to (Mild.To n) = true
-is_to Mild.Not = false
+abbrev is_to : Option ℕ → Bool
+is_to (Some n) = true
+is_to None = false
 
 pub record Harmless (w : List ℕ) (n : ℕ) : Type 0 where
-  pub kept : Kept (lead_of w).decimal
+  pub kept : Kept (lead_of w).value
   pub next : (lead_of w).next ≡ n
 
 module _ (w : List ℕ) where
-  decimal_is : leb (length w) 64 ≡ true → (lead_of w).decimal ≡ kept (reading_by (sign_in w).negative (front_of w).count (back_of w) (tens_of w).power)
+  decimal_is : leb (length w) 64 ≡ true → (lead_of w).value ≡ kept (reading_by (sign_in w).negative (front_of w).count (back_of w) (tens_of w).power)
   unfolding lead_of
   decimal_is h = rw (h, lead_of)
 
   lead_by : leb (length w) 64 ≡ true → ((front_of w).count + (back_of w).count ≡ 0 → ⊥) → (t : Near (tens_of w).power)
-      → Kept (keep (sign_in w).negative (back_of w).value (t.tens -ℤ pos (back_of w).count)) → Kept (lead_of w).decimal
+      → Kept (keep (sign_in w).negative (back_of w).value (t.tens -ℤ pos (back_of w).count)) → Kept (lead_of w).value
   lead_by l n t k =
       record {
         mantissa = k.mantissa;
@@ -121,7 +121,7 @@ module _ (w : List ℕ) where
             ∙ ap (keep_by (sign_in w).negative (back_of w).value (back_of w).count) t.is ∙ k.is;
       }
 
-  lead_kept : leb (length w) 64 ≡ true → few_digits w ≡ true → small_power (back_of w).rest ≡ true → Kept (lead_of w).decimal
+  lead_kept : leb (length w) 64 ≡ true → few_digits w ≡ true → small_power (back_of w).rest ≡ true → Kept (lead_of w).value
   lead_kept l f p =
       let d = within_is 1 18 ((front_of w).count + (back_of w).count) f in
       let t = small_near (back_of w).rest p in
@@ -130,10 +130,10 @@ module _ (w : List ℕ) where
       (omega (arith, t.less, d, mag_sum t.tens (neg_ℤ (pos (back_of w).count)), mag_neg (back_of w).count)))
 
   -- the law
-  pub mild_harmless : (n : ℕ) → mild_of w ≡ Mild.To n → Harmless w n
+  pub mild_harmless : (n : ℕ) → mild_of w ≡ Some n → Harmless w n
   unfolding mild_of
   mild_harmless n e =
-      either (λ r. r ≡ Mild.To n → Harmless w n) _
+      either (λ r. r ≡ Some n → Harmless w n) _
       (λ p q. let a = and_split (leb (length w) 64) _ p in
       let b = and_split (few_digits w) (small_power (back_of w).rest) a.1 in
       record { kept = lead_kept a.0 b.0 b.1; next = ap place_of q })

@@ -1,4 +1,6 @@
 -- What a lead says: the bytes before the place where it stops are a coordinate word with that pair, whatever follows. Assumes nothing.
+use Rattle.std.specs.Prelude.{Option, Some}
+use Rattle.decimals.specs.Coordinate.{decimal}
 use Prim.Native.Nat.{ℕ, zero, suc, ◌+◌, ◌-◌, ◌≤◌, ◌<◌}
 use native.Mathlib.Omega.{arith}
 use mathlib.Core.Path.{◌≡◌, refl, sym, ap, ◌∙◌}
@@ -11,9 +13,8 @@ use lib.IntN.{ℤ, pos}
 use lib.ListN.{length, take, get_or, length-append}
 use lib.Seq.{take-append_seam}
 use Rattle.facts.proofs.Branch.{either}
-use Rattle.decimals.specs.declared.decimal.Power.{Power}
 use Rattle.decimals.specs.declared.decimal.Decimal.{Decimal}
-use Rattle.decimals.specs.declared.decimal.Lead.{Lead}
+use Rattle.facts.specs.declared.Taken.{Taken}
 use Rattle.digits.specs.Digits.{within, Figures}
 use Rattle.decimals.specs.Coordinate.{sign_of, sign_in, is_mark, Parts, Reading, is, none, reading_by, front_of, back_of, kept, coordinate_of}
 use Rattle.decimals.specs.Value.{SignText, unsigned, plus, minus, PointText, plain, pointed, PowerText, unpowered, powered, Written}
@@ -25,7 +26,7 @@ use Rattle.decimals.proofs.Exactly.{not_kept}
 use Rattle.decimals.proofs.Readings.{short_is}
 
 -- ---- the power
-none_led : (r : List ℕ) (k : ℤ) → Power.Is (pos 0) ≡ Power.Is k → Powers r k r
+none_led : (r : List ℕ) (k : ℤ) → Some (pos 0) ≡ Some k → Powers r k r
 none_led r k e = let z : k ≡ pos 0 = cc in record { text = []; parted = refl; powers = rw z unpowered }
 
 marked_by : (b : ℕ) (w : List ℕ) → is_mark b ≡ true → within 1 3 (front_of w).count ≡ true
@@ -42,18 +43,18 @@ marked_by b w m t =
           (powered s.text d.run (is_mark_lem b m) s.signs d.figures (omega (arith, d.count, c)) (omega (arith, d.count, c)));
     }
 
-marked_led : (b : ℕ) (w : List ℕ) (k : ℤ) → is_mark b ≡ true → tens_by (sign_in w).negative (front_of w) ≡ Power.Is k
+marked_led : (b : ℕ) (w : List ℕ) (k : ℤ) → is_mark b ≡ true → tens_by (sign_in w).negative (front_of w) ≡ Some k
     → Powers (b ∷ w) k (front_of w).rest
 marked_led b w k m =
-    either (λ (x : Power). x ≡ Power.Is k → Powers (b ∷ w) k (front_of w).rest) (within 1 3 (front_of w).count)
+    either (λ (x : Option ℤ). x ≡ Some k → Powers (b ∷ w) k (front_of w).rest) (within 1 3 (front_of w).count)
     (λ t e. let q : k ≡ sign_of (sign_in w).negative (front_of w).value = cc in rw q (marked_by b w m t))
     (λ _ e. absurd (let z : ◌≡◌ {A = ℕ} 0 1 = cc in omega arith))
 
-power_in_part : (r : List ℕ) (k : ℤ) → (power_in r).power ≡ Power.Is k → Powers r k (power_in r).rest
+power_in_part : (r : List ℕ) (k : ℤ) → (power_in r).power ≡ Some k → Powers r k (power_in r).rest
 unfolding power_in marked_in
 power_in_part [] k = none_led [] k
 power_in_part (b ∷ w) k =
-    either (λ (x : Leading). x.power ≡ Power.Is k → Powers (b ∷ w) k x.rest) (is_mark b) (λ m e. marked_led b w k m e)
+    either (λ (x : Leading). x.power ≡ Some k → Powers (b ∷ w) k x.rest) (is_mark b) (λ m e. marked_led b w k m e)
     (λ _ e. none_led (b ∷ w) k e)
 
 -- ---- the bytes of a coordinate
@@ -118,10 +119,10 @@ pub record Led (w : List ℕ) (m e : ℤ) (n : ℕ) : Type 0 where
   pub next : n ≡ length word
   pub some : 1 ≤ length word
   pub made : Made word
-  pub says : coordinate_of word ≡ Decimal.Is m e
+  pub says : coordinate_of word ≡ decimal m e
 
 module _ (w : List ℕ) (m e : ℤ) where
-  found : length w ≤ 64 → (r : Reading) → reading_by (sign_in w).negative (front_of w).count (back_of w) (tens_of w).power ≡ r → kept r ≡ Decimal.Is m e
+  found : length w ≤ 64 → (r : Reading) → reading_by (sign_in w).negative (front_of w).count (back_of w) (tens_of w).power ≡ r → kept r ≡ decimal m e
       → Led w m e (length w - length (tens_of w).rest)
   found l none q h = not_kept m e h
   found l (is p) q h =
@@ -138,31 +139,31 @@ module _ (w : List ℕ) (m e : ℤ) where
         says = sym (short_is b.word (omega (arith, z))) ∙ ap kept ((reading_of_exactly b.word p).1 b.written) ∙ h;
       }
 
-  pub led : (lead_of w).decimal ≡ Decimal.Is m e → Led w m e (lead_of w).next
+  pub led : (lead_of w).value ≡ decimal m e → Led w m e (lead_of w).next
   unfolding lead_of
   led =
-      either (λ (x : Lead). x.decimal ≡ Decimal.Is m e → Led w m e x.next) (leb (length w) 64) (λ l h. found (leb-true _ _ l) _ refl h)
+      either (λ (x : Taken (Option Decimal)). x.value ≡ decimal m e → Led w m e x.next) (leb (length w) 64) (λ l h. found (leb-true _ _ l) _ refl h)
       (λ _ h. not_kept m e h)
 
   taken : (l : Led w m e (lead_of w).next) → take (lead_of w).next w ≡ l.word
   taken l = ap (λ n. take n w) l.next ∙ ap (take (length l.word)) l.parted ∙ take-append_seam l.word l.rest
 
   -- the bytes up to there are a word that is this coordinate
-  pub lead_is : (lead_of w).decimal ≡ Decimal.Is m e → coordinate_of (take (lead_of w).next w) ≡ Decimal.Is m e
+  pub lead_is : (lead_of w).value ≡ decimal m e → coordinate_of (take (lead_of w).next w) ≡ decimal m e
   lead_is h = ap coordinate_of (taken (led h)) ∙ (led h).says
 
   -- it is not empty, and inside the bytes
-  pub lead_next : (lead_of w).decimal ≡ Decimal.Is m e → (1 ≤ (lead_of w).next) × ((lead_of w).next ≤ length w)
+  pub lead_next : (lead_of w).value ≡ decimal m e → (1 ≤ (lead_of w).next) × ((lead_of w).next ≤ length w)
   lead_next h =
       let l = led h in
       let z = ap length l.parted ∙ length-append l.word l.rest in
       (omega (arith, l.next, l.some), omega (arith, l.next, z))
 
   -- and has only bytes that a coordinate may have
-  pub lead_made : (lead_of w).decimal ≡ Decimal.Is m e → Made (take (lead_of w).next w)
+  pub lead_made : (lead_of w).value ≡ decimal m e → Made (take (lead_of w).next w)
   lead_made h = rw (taken (led h)) (led h).made
 
-  pub lead_parts : (lead_of w).decimal ≡ Decimal.Is m e → (i : ℕ) → i < (lead_of w).next → is_part (get_or w i 0) ≡ true
+  pub lead_parts : (lead_of w).value ≡ decimal m e → (i : ℕ) → i < (lead_of w).next → is_part (get_or w i 0) ≡ true
   lead_parts h i b = let l = led h in rw l.parted (part_at l.word l.rest l.made i (omega (arith, l.next)))
     where
       part_at : (u r : List ℕ) → Made u → (i : ℕ) → i < length u → is_part (get_or (u ++ r) i 0) ≡ true

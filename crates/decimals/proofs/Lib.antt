@@ -4,7 +4,6 @@ pub mod Tens
 pub mod Scaled
 pub mod Value
 pub mod Exactly
-mod Absolute
 pub mod Readings
 pub mod Led
 pub mod Harmless

@@ -1,4 +1,5 @@
 -- The pieces of a coordinate word, sign, power and fraction: what is read of each is what is written there. Assumes nothing.
+use Rattle.std.specs.Prelude.{Option, Some, None}
 use Prim.Native.Nat.{ℕ, ◌<◌}
 use native.Mathlib.Omega.{arith}
 use mathlib.Core.Path.{◌≡◌, refl, sym, ap, ◌∙◌}
@@ -9,8 +10,6 @@ use borrow.Author.Tests.{ne_eqb, eqb-true}
 use lib.Dec.{eqb}
 use lib.IntN.{ℤ, pos}
 use Rattle.facts.proofs.Branch.{either}
-use Rattle.numbers.specs.declared.whole.Whole.{Whole}
-use Rattle.decimals.specs.declared.decimal.Power.{Power}
 use Rattle.digits.specs.Digits.{digit_of, Digits, digits, Figures, worth}
 use Rattle.numbers.specs.Whole.{whole_of}
 use Rattle.decimals.specs.Coordinate.{sign_of, Signed, signed, sign_in, fraction_in, is_mark, power_by, marked_of, power_of}
@@ -70,22 +69,22 @@ is_mark_lem b = marked (eqb b 101) (eqb b 69) (eqb-true b 101) (eqb-true b 69)
     marked true q f g e = inl (f refl)
     marked false q f g e = inr (g e)
 
-pub power_of_exact : {t : List ℕ} {k : ℤ} → PowerText t k → power_of t ≡ Power.Is k
+pub power_of_exact : {t : List ℕ} {k : ℤ} → PowerText t k → power_of t ≡ Some k
 unfolding power_of marked_of
 power_of_exact unpowered = refl
 power_of_exact (powered {e} s d m g f low high) =
     rw (mark_is e m, power_of, sign_in_exact d g (rw append-nil at (digits_unsigned d [] f tt)), whole_of_exact 10 3 d f low high)
 
-record Powered (n : Bool) (x : Whole) (k : ℤ) : Type 0 where
+record Powered (n : Bool) (x : Option ℕ) (k : ℤ) : Type 0 where
   pub tens : ℕ
-  pub whole : x ≡ Whole.Is tens
+  pub whole : x ≡ Some tens
   pub signs : sign_of n tens ≡ k
 
-power_by_lem : (n : Bool) (x : Whole) (k : ℤ) → power_by n x ≡ Power.Is k → Powered n x k
-power_by_lem n (Whole.Is v) k e = record { tens = v; whole = refl; signs = cc }
-power_by_lem n Whole.Not k e = absurd (let z : ◌≡◌ {A = ℕ} 0 1 = cc in omega arith)
+power_by_lem : (n : Bool) (x : Option ℕ) (k : ℤ) → power_by n x ≡ Some k → Powered n x k
+power_by_lem n (Some v) k e = record { tens = v; whole = refl; signs = cc }
+power_by_lem n None k e = absurd (let z : ◌≡◌ {A = ℕ} 0 1 = cc in omega arith)
 
-marked_part : (b : ℕ) (w : List ℕ) (k : ℤ) → is_mark b ≡ true → marked_of w ≡ Power.Is k → PowerText (b ∷ w) k
+marked_part : (b : ℕ) (w : List ℕ) (k : ℤ) → is_mark b ≡ true → marked_of w ≡ Some k → PowerText (b ∷ w) k
 unfolding marked_of
 marked_part b w k m e =
     let s = sign_in_part w in
@@ -94,11 +93,11 @@ marked_part b w k m e =
     let z : k ≡ sign_of (sign_in w).negative (worth 10 0 (sign_in w).rest) = sym p.signs ∙ ap (sign_of (sign_in w).negative) h.value in
     rw (z, ap (λ l. b ∷ l) s.parted) (powered s.text (sign_in w).rest (is_mark_lem b m) s.signs h.figures h.low h.high)
 
-pub power_of_part : (r : List ℕ) (k : ℤ) → power_of r ≡ Power.Is k → PowerText r k
+pub power_of_part : (r : List ℕ) (k : ℤ) → power_of r ≡ Some k → PowerText r k
 unfolding power_of
 power_of_part [] k e = let z : k ≡ pos 0 = cc in rw z unpowered
 power_of_part (b ∷ w) k e =
-    either (λ q. q ≡ Power.Is k → PowerText (b ∷ w) k) (is_mark b) (λ m e. marked_part b w k m e)
+    either (λ q. q ≡ Some k → PowerText (b ∷ w) k) (is_mark b) (λ m e. marked_part b w k m e)
     (λ _ e. absurd (let z : ◌≡◌ {A = ℕ} 0 1 = cc in omega arith)) e
 
 -- and some bytes may stand behind the text
@@ -107,7 +106,7 @@ pub record Powers (r : List ℕ) (k : ℤ) (rest : List ℕ) : Type 0 where
   pub parted : r ≡ text ++ rest
   pub powers : PowerText text k
 
-pub power_of_all : (r : List ℕ) (k : ℤ) → power_of r ≡ Power.Is k → Powers r k []
+pub power_of_all : (r : List ℕ) (k : ℤ) → power_of r ≡ Some k → Powers r k []
 power_of_all r k e = record { text = r; parted = sym (append-nil r); powers = power_of_part r k e }
 
 -- ---- digits behind a point

@@ -1,4 +1,6 @@
 -- The pair that is kept has the value, is canonical, and is the only canonical pair that has it. Assumes nothing.
+use Rattle.std.specs.Prelude.{Option, None, Some}
+use Rattle.decimals.specs.Coordinate.{decimal}
 use Prim.Native.Nat.{ℕ, zero, suc, ◌+◌, ◌*◌, ◌%◌, ◌^◌, ◌≤◌, ◌<◌}
 use native.Mathlib.Nat.{zero-mul}
 use native.Mathlib.Omega.{arith}
@@ -19,9 +21,9 @@ use Rattle.decimals.proofs.Tens.{cut_as, pos_of, at_least, cut_all}
 use Rattle.decimals.proofs.Scaled.{abs_sign, abs_times, sign_times, sign_is, tens_unique, swapped, regroup, cut_same, zero_same, same_refl, Tens, tens_of_lem}
 
 -- ---- what is kept
-abbrev pub Holds : (ℤ → ℤ → Type 0) → Decimal → Type 0
-Holds P (Decimal.Is m e) = P m e
-Holds P Decimal.Not = Unit
+abbrev pub Holds : (ℤ → ℤ → Type 0) → Option Decimal → Type 0
+Holds P (Some d) = P d.mantissa d.exponent
+Holds P None = Unit
 
 abbrev Right : Bool → ℕ → ℤ → ℤ → ℤ → Type 0
 Right n d x m e = SameValue m e (sign_of n d) x × Canonical m e
@@ -65,11 +67,11 @@ module _ (n : Bool) (d : ℕ) (x : ℤ) where
       (λ p. let t = tens_of_lem d d (omega arith) (omega (arith, eqb-false d 0 p)) in
       rw (cut_all d t.core t.zeros t.whole t.ends) (fitted_right t.core t.zeros t.whole t.ends))
 
-holds_is : (P : ℤ → ℤ → Type 0) (r : Decimal) (m e : ℤ) → Holds P r → r ≡ Decimal.Is m e → P m e
+holds_is : (P : ℤ → ℤ → Type 0) (r : Option Decimal) (m e : ℤ) → Holds P r → r ≡ decimal m e → P m e
 holds_is P r m e h q = rw q at h
 
 -- ---- and nothing else is kept
-pub keep_zero : (n : Bool) (d : ℕ) (x : ℤ) → d ≡ 0 → Decimal.Is (pos 0) (pos 0) ≡ keep n d x
+pub keep_zero : (n : Bool) (d : ℕ) (x : ℤ) → d ≡ 0 → decimal (pos 0) (pos 0) ≡ keep n d x
 unfolding keep
 keep_zero n d x h = rw (eq-eqb d 0 h, keep)
 
@@ -80,11 +82,11 @@ keep_tens n d m z x e h =
     rw (ne_eqb d 0 (λ e. omega arith), keep) (ap (λ c. fitted n c x) (cut_all d m z e h))
 
 module _ (n : Bool) (c : Cut) (e : ℤ) (h : c.m < 10 ^ 18) where
-  pub fitted_in : in_range (e +ℤ pos c.zeros) ≡ true → Decimal.Is (sign_of n c.m) (e +ℤ pos c.zeros) ≡ fitted n c e
+  pub fitted_in : in_range (e +ℤ pos c.zeros) ≡ true → decimal (sign_of n c.m) (e +ℤ pos c.zeros) ≡ fitted n c e
   unfolding fitted
   fitted_in t = rw (lt-ltb _ (10 ^ 18) h, t, fitted)
 
-  pub fitted_out : in_range (e +ℤ pos c.zeros) ≡ false → Decimal.Not ≡ fitted n c e
+  pub fitted_out : in_range (e +ℤ pos c.zeros) ≡ false → None ≡ fitted n c e
   unfolding fitted
   fitted_out t = rw (lt-ltb _ (10 ^ 18) h, t, fitted)
 
@@ -95,7 +97,7 @@ module _ (n : Bool) (d : ℕ) (x m e : ℤ) (s : SameValue m e (sign_of n d) x) 
   sizes : nat_abs m * 10 ^ s.left ≡ d * 10 ^ s.right
   sizes = sym (abs_times m _) ∙ ap nat_abs scaled ∙ abs_sign n _
 
-  zero_kept : d ≡ 0 → Decimal.Is m e ≡ keep n d x
+  zero_kept : d ≡ 0 → decimal m e ≡ keep n d x
   zero_kept h =
       let a = nat_abs_zero m (omega (arith, at_least (nat_abs m) s.left, sizes ∙ ap (λ k. k * 10 ^ s.right) h ∙ zero-mul (10 ^ s.right))) in
       rw (a, c.zero_is a) (keep_zero n d x h)
@@ -132,24 +134,27 @@ module _ (n : Bool) (d : ℕ) (x m e : ℤ) (s : SameValue m e (sign_of n d) x) 
         )
         ∙ +ℤ-neg_ℤ_cancel (x +ℤ pos t.zeros) (pos s.shift)
 
-    some_kept : Decimal.Is m e ≡ keep n d x
+    some_kept : decimal m e ≡ keep n d x
     some_kept =
         rw (mantissa_is, exponent_is)
         (fitted_in n (cut_as t.core t.zeros) x (rw parted.0 at c.few) (rw exponent_is at (in_range_lem e c.low c.high))
         ∙ sym (keep_tens n d t.core t.zeros x t.whole t.ends))
 
-  kept_is : Decimal.Is m e ≡ keep n d x
+  kept_is : decimal m e ≡ keep n d x
   kept_is = split (eqb d 0) (λ p. zero_kept (eqb-true d 0 p)) (λ p. some_kept (positive p) (tens_of_lem d d (omega arith) (positive p)))
     where
       positive : eqb d 0 ≡ false → 1 ≤ d
       positive p = omega (arith, eqb-false d 0 p)
 
 -- a pair is kept exactly when it is canonical and has the value
-pub keep_exactly : (n : Bool) (d : ℕ) (x m e : ℤ) → (keep n d x ≡ Decimal.Is m e) ↔ (SameValue m e (sign_of n d) x × Canonical m e)
+pub keep_exactly : (n : Bool) (d : ℕ) (x m e : ℤ) → (keep n d x ≡ decimal m e) ↔ (SameValue m e (sign_of n d) x × Canonical m e)
 keep_exactly n d x m e = (holds_is (Right n d x) (keep n d x) m e (keep_right n d x), λ h. sym (kept_is n d x m e h.0 h.1))
 
-pub same_pair : {r : Decimal} {m e m' e' : ℤ} → r ≡ Decimal.Is m e → r ≡ Decimal.Is m' e' → (m ≡ m') × (e ≡ e')
-same_pair p q = (cc, cc)
+same_decimal : {d d' : Decimal} → Some d ≡ Some d' → d ≡ d'
+same_decimal p = cc
+
+pub same_pair : {r : Option Decimal} {m e m' e' : ℤ} → r ≡ decimal m e → r ≡ decimal m' e' → (m ≡ m') × (e ≡ e')
+same_pair p q = let d = same_decimal (sym p ∙ q) in (ap (λ (y : Decimal). y.mantissa) d, ap (λ (y : Decimal). y.exponent) d)
 
 -- no other canonical pair has the value of a canonical pair
 pub canonical_only : (m e m' e' : ℤ) → Canonical m e → Canonical m' e' → SameValue m e m' e' → (m ≡ m') × (e ≡ e')

@@ -1,4 +1,5 @@
 -- What is read of a coordinate word is what is written there: reading_of w ≡ is p exactly when Written w p. Assumes nothing.
+use Rattle.std.specs.Prelude.{Option, Some, None}
 use Prim.Native.Nat.{ℕ, ◌+◌, ◌≤◌}
 use native.Mathlib.Omega.{arith}
 use mathlib.Core.Path.{◌≡◌, refl, sym, ap, ◌∙◌}
@@ -10,7 +11,6 @@ use lib.Dec.{eqb}
 use lib.ListN.{length}
 use lib.IntN.{ℤ}
 use Rattle.facts.proofs.Branch.{either}
-use Rattle.decimals.specs.declared.decimal.Power.{Power}
 use Rattle.digits.specs.Digits.{digit_of, Digits, digits, digits_in, Figures, worth}
 use Rattle.decimals.specs.Coordinate.{Signed, signed, sign_in, fraction_in, power_of, Reading, Parts, is, parts_of, reading_by, front_of, back_of, reading_of}
 use Rattle.decimals.specs.Value.{SignText, PointText, plain, pointed, PowerText, Written}
@@ -43,11 +43,11 @@ by_front n d = by_back n d.count (fraction_in d.value d.rest)
 abbrev by_sign : Signed → Reading
 by_sign x = by_front x.negative (digits_in 10 0 0 x.rest)
 
-some_digit : (n : Bool) (k : ℤ) (c : ℕ) (b : Digits) → (c + b.count ≡ 0 → ⊥) → reading_by n c b (Power.Is k) ≡ is (parts_of n b.value b.count k)
+some_digit : (n : Bool) (k : ℤ) (c : ℕ) (b : Digits) → (c + b.count ≡ 0 → ⊥) → reading_by n c b (Some k) ≡ is (parts_of n b.value b.count k)
 some_digit n k c b h = rw (ne_eqb (c + b.count) 0 h, reading_by)
 
 read_steps : (w u : List ℕ) (n : Bool) (k : ℤ) (before behind : Digits)
-    → sign_in w ≡ signed n u → digits_in 10 0 0 u ≡ before → fraction_in before.value before.rest ≡ behind → power_of behind.rest ≡ Power.Is k
+    → sign_in w ≡ signed n u → digits_in 10 0 0 u ≡ before → fraction_in before.value before.rest ≡ behind → power_of behind.rest ≡ Some k
     → (before.count + behind.count ≡ 0 → ⊥) → reading_of w ≡ is (parts_of n behind.value behind.count k)
 unfolding reading_of
 read_steps w u n k before behind a b c d e =
@@ -88,16 +88,16 @@ written_read w p h = ap reading_of h.whole ∙ by_points h.points h.digits h.som
         rw (append_assoc a (46 ∷ b) h.power, worth_append 10 a b 0)
         (with_point h.signs h.powers a b (figures_left 10 a b f) (figures_right 10 a b f) l)
 
-pub record Read (n : Bool) (c : ℕ) (b : Digits) (q : Power) (p : Parts) : Type 0 where
+pub record Read (n : Bool) (c : ℕ) (b : Digits) (q : Option ℤ) (p : Parts) : Type 0 where
   pub tens : ℤ
-  pub power : q ≡ Power.Is tens
+  pub power : q ≡ Some tens
   pub some : 1 ≤ c + b.count
   pub says : p ≡ parts_of n b.value b.count tens
 
-pub read_is : (n : Bool) (c : ℕ) (b : Digits) (q : Power) (p : Parts) → reading_by n c b q ≡ is p → Read n c b q p
-read_is n c b Power.Not p e = absurd (let z : ◌≡◌ {A = ℕ} 0 1 = cc in omega arith)
-read_is n c b (Power.Is k) p e =
-    either (λ r. r ≡ is p → Read n c b (Power.Is k) p) (eqb (c + b.count) 0) (λ _ e. absurd (let z : ◌≡◌ {A = ℕ} 0 1 = cc in omega arith))
+pub read_is : (n : Bool) (c : ℕ) (b : Digits) (q : Option ℤ) (p : Parts) → reading_by n c b q ≡ is p → Read n c b q p
+read_is n c b None p e = absurd (let z : ◌≡◌ {A = ℕ} 0 1 = cc in omega arith)
+read_is n c b (Some k) p e =
+    either (λ r. r ≡ is p → Read n c b (Some k) p) (eqb (c + b.count) 0) (λ _ e. absurd (let z : ◌≡◌ {A = ℕ} 0 1 = cc in omega arith))
     (λ z e. record { tens = k; power = refl; some = omega (arith, eqb-false (c + b.count) 0 z); says = cc }) e
 
 -- a word that is written so, and these bytes behind it
@@ -110,7 +110,7 @@ seam : (a b c r : List ℕ) → a ++ (b ++ (c ++ r)) ≡ (a ++ (b ++ c)) ++ r
 seam a b c r = sym (append_assoc a (b ++ c) r ∙ ap (λ l. a ++ l) (append_assoc b c r))
 
 module _ (w : List ℕ) (p : Parts) {g : Signed} (s : Signs w g) {c : ℕ} (run : List ℕ) (f : Figures 10 run) (count : c ≡ 0 + length run) where
-  by_fraction : {v : ℕ} {r : List ℕ} {b : Digits} {x : Power} {rest : List ℕ} → g.rest ≡ run ++ r → v ≡ worth 10 0 run → Fraction v r b
+  by_fraction : {v : ℕ} {r : List ℕ} {b : Digits} {x : Option ℤ} {rest : List ℕ} → g.rest ≡ run ++ r → v ≡ worth 10 0 run → Fraction v r b
       → (q : Read g.negative c b x p) → Powers b.rest q.tens rest → Begun w p rest
   by_fraction {rest = rest} e v no_point r t =
       record {
@@ -163,7 +163,7 @@ module _ (w : List ℕ) (p : Parts) {g : Signed} (s : Signs w g) {c : ℕ} (run 
       }
 
 -- the parts that are read are written at the start of the bytes
-pub begun : (w : List ℕ) (p : Parts) {x : Power} {rest : List ℕ} (q : Read (sign_in w).negative (front_of w).count (back_of w) x p)
+pub begun : (w : List ℕ) (p : Parts) {x : Option ℤ} {rest : List ℕ} (q : Read (sign_in w).negative (front_of w).count (back_of w) x p)
     → Powers (back_of w).rest q.tens rest → Begun w p rest
 begun w p q t =
     let f = digits_in_part 10 (sign_in w).rest 0 0 in

@@ -1,14 +1,16 @@
 -- [01:Tokens], coordinates: what a word says and the pair that is kept of it, executable. Assumes nothing.
 -- What it means is said in Value, which knows no computation; proofs/Exactly shows that the two agree.
-use Rattle.std.specs.Prelude.{ℕ, zero, suc, ◌+◌, ◌/◌, ◌%◌, ◌^◌, List, [], ◌∷◌, Bool, true, false, ◌&&◌, ◌||◌, length, ltb, leb, eqb, ℤ, pos, negsuc, neg_ℤ, ◌+ℤ◌, ◌-ℤ◌}
+use Rattle.std.specs.Prelude.{ℕ, zero, suc, ◌+◌, ◌/◌, ◌%◌, ◌^◌, List, [], ◌∷◌, Bool, true, false, ◌&&◌, ◌||◌, length, ltb, leb, eqb, ℤ, pos, negsuc, neg_ℤ, ◌+ℤ◌, ◌-ℤ◌, Option, Some, None}
 use Rattle.std.specs.Int.Signed.{le_z}
 use Rattle.sizes.specs.Sizes.{coordinate_bytes, coordinate_digits}
-use Rattle.numbers.specs.declared.whole.Whole.{Whole}
-use Rattle.decimals.specs.declared.decimal.Power.{Power}
 use Rattle.decimals.specs.declared.decimal.Cut.{Cut}
 use Rattle.decimals.specs.declared.decimal.Decimal.{Decimal}
 use Rattle.digits.specs.Digits.{Digits, digits, digits_in}
 use Rattle.numbers.specs.Whole.{whole_of}
+
+-- a decimal that is kept
+abbrev pub decimal : ℤ → ℤ → Option Decimal
+decimal m e = Some (record { mantissa = m; exponent = e })
 
 abbrev pub sign_of : Bool → ℕ → ℤ
 sign_of true m = neg_ℤ (pos m)
@@ -35,16 +37,16 @@ fraction_in v (b ∷ w) = elim (eqb b 46) [ true ↦ digits_in 10 v 0 w | false 
 abbrev pub is_mark : ℕ → Bool
 is_mark b = eqb b 101 || eqb b 69
 
-abbrev pub power_by : Bool → Whole → Power
-power_by n (Whole.Is k) = Power.Is (sign_of n k)
-power_by n Whole.Not = Power.Not
+abbrev pub power_by : Bool → Option ℕ → Option ℤ
+power_by n (Some k) = Some (sign_of n k)
+power_by n None = None
 
-unfoldable pub marked_of : List ℕ → Power
+unfoldable pub marked_of : List ℕ → Option ℤ
 marked_of w = power_by (sign_in w).negative (whole_of 10 3 (sign_in w).rest)
 
-unfoldable pub power_of : List ℕ → Power
-power_of [] = Power.Is (pos 0)
-power_of (b ∷ w) = elim (is_mark b) [ true ↦ marked_of w | false ↦ Power.Not ]
+unfoldable pub power_of : List ℕ → Option ℤ
+power_of [] = Some (pos 0)
+power_of (b ∷ w) = elim (is_mark b) [ true ↦ marked_of w | false ↦ None ]
 
 -- the value is digits · 10 ^ exponent, or that negated
 pub record Parts : Type 0 where
@@ -60,9 +62,9 @@ abbrev pub parts_of : Bool → ℕ → ℕ → ℤ → Parts
 parts_of n v places k = record { negative = n; digits = v; exponent = k -ℤ pos places }
 
 -- "at least one digit"
-abbrev pub reading_by : Bool → ℕ → Digits → Power → Reading
-reading_by n before b (Power.Is k) = elim (eqb (before + b.count) 0) [ true ↦ none | false ↦ is (parts_of n b.value b.count k) ]
-reading_by n before b Power.Not = none
+abbrev pub reading_by : Bool → ℕ → Digits → Option ℤ → Reading
+reading_by n before b (Some k) = elim (eqb (before + b.count) 0) [ true ↦ none | false ↦ is (parts_of n b.value b.count k) ]
+reading_by n before b None = none
 
 abbrev pub front_of : List ℕ → Digits
 front_of w = digits_in 10 0 0 (sign_in w).rest
@@ -83,26 +85,26 @@ unfoldable pub in_range : ℤ → Bool
 in_range e = le_z (negsuc 399) e && le_z e (pos 400)
 
 -- "After leading and trailing zeros are dropped at most 18 digits may stand."
-unfoldable pub fitted : Bool → Cut → ℤ → Decimal
+unfoldable pub fitted : Bool → Cut → ℤ → Option Decimal
 fitted n c e =
     elim (ltb c.m (10 ^ coordinate_digits)) [
-      | true ↦ elim (in_range (e +ℤ pos c.zeros)) [ true ↦ Decimal.Is (sign_of n c.m) (e +ℤ pos c.zeros) | false ↦ Decimal.Not ]
-      | false ↦ Decimal.Not
+      | true ↦ elim (in_range (e +ℤ pos c.zeros)) [ true ↦ decimal (sign_of n c.m) (e +ℤ pos c.zeros) | false ↦ None ]
+      | false ↦ None
     ]
 
 -- "any zero, `-0` also, is mantissa 0, exponent 0"
-unfoldable pub keep : Bool → ℕ → ℤ → Decimal
-keep n d e = elim (eqb d 0) [ true ↦ Decimal.Is (pos 0) (pos 0) | false ↦ fitted n (cut d d 0) e ]
+unfoldable pub keep : Bool → ℕ → ℤ → Option Decimal
+keep n d e = elim (eqb d 0) [ true ↦ decimal (pos 0) (pos 0) | false ↦ fitted n (cut d d 0) e ]
 
-abbrev pub kept : Reading → Decimal
+abbrev pub kept : Reading → Option Decimal
 kept (is p) = keep p.negative p.digits p.exponent
-kept none = Decimal.Not
+kept none = None
 
 -- the same of digits v and a power: `places` of the digits stand behind the point
-abbrev pub keep_by : Bool → ℕ → ℕ → Power → Decimal
-keep_by n v places (Power.Is k) = keep n v (k -ℤ pos places)
-keep_by n v places Power.Not = Decimal.Not
+abbrev pub keep_by : Bool → ℕ → ℕ → Option ℤ → Option Decimal
+keep_by n v places (Some k) = keep n v (k -ℤ pos places)
+keep_by n v places None = None
 
 -- "Coordinate word: at most 64 bytes"
-unfoldable pub coordinate_of : List ℕ → Decimal
-coordinate_of w = elim (leb (length w) coordinate_bytes) [ true ↦ kept (reading_of w) | false ↦ Decimal.Not ]
+unfoldable pub coordinate_of : List ℕ → Option Decimal
+coordinate_of w = elim (leb (length w) coordinate_bytes) [ true ↦ kept (reading_of w) | false ↦ None ]

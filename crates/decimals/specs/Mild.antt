@@ -1,8 +1,7 @@
 -- [01:Tokens], coordinates: one that is good whatever it says, known by its shape alone, executable. Assumes nothing.
 -- proofs/Harmless shows that such a one is kept.
-use Rattle.std.specs.Prelude.{ℕ, ◌+◌, List, [], ◌∷◌, Bool, true, false, ◌&&◌, length, leb}
+use Rattle.std.specs.Prelude.{ℕ, ◌+◌, List, [], ◌∷◌, Bool, true, false, ◌&&◌, length, leb, Option, Some, None}
 use Rattle.sizes.specs.Sizes.{coordinate_bytes, coordinate_digits}
-use Rattle.decimals.specs.declared.decimal.Mild.{Mild}
 use Rattle.digits.specs.Digits.{within}
 use Rattle.decimals.specs.Coordinate.{is_mark, front_of, back_of}
 use Rattle.decimals.specs.Lead.{lead_of}
@@ -17,6 +16,6 @@ small_power [] = true
 small_power (b ∷ w) = elim (is_mark b) [ true ↦ within 1 2 (front_of w).count | false ↦ true ]
 
 -- the place behind such a coordinate at the start of some bytes, whatever follows it
-unfoldable pub mild_of : List ℕ → Mild
+unfoldable pub mild_of : List ℕ → Option ℕ
 mild_of w =
-    elim (leb (length w) coordinate_bytes && (few_digits w && small_power (back_of w).rest)) [ true ↦ Mild.To (lead_of w).next | false ↦ Mild.Not ]
+    elim (leb (length w) coordinate_bytes && (few_digits w && small_power (back_of w).rest)) [ true ↦ Some (lead_of w).next | false ↦ None ]

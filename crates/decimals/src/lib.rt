@@ -5,5 +5,5 @@
 mod decimal;
 mod signed;
 
-pub use decimal::{Cut, Decimal, Lead, Mild, Power};
+pub use decimal::{Cut, Decimal};
 pub use signed::magnitude;

@@ -1,4 +1,5 @@
 -- A call of `audit::audit` answers 0 exactly when the tables are within the limits, and then shows what it should; else it changes nothing. Assumes nothing.
+use Rattle.std.specs.Prelude.{Result, Err}
 use Prim.Native.Nat.{ℕ, ◌≤◌}
 use native.Mathlib.Omega.{arith}
 use mathlib.Core.Path.{◌≡◌, sym, ap, subst, ◌∙◌}
@@ -79,5 +80,5 @@ module _ (κ : Lfts 4) (a : Args audit.signature κ) (r : Res audit.signature κ
   pub within_shows : Limits (given κ a) (counts κ a) → Shows (given κ a) (counts κ a) (list κ a) (left κ r x)
   within_shows l = shown.0 (accepted_within.1 l)
 
-  pub refused_unchanged : (w : Refusal) → r ≡ Audited.Refused w → Unchanged (counts κ a) (list κ a) (left κ r x)
-  refused_unchanged w e = shown.1 (λ z. let n : number_of w ≡ 0 = sym (ap (λ (y : Audited). (values_of y).number) e) ∙ z in omega (arith, (numbered w).0))
+  pub refused_unchanged : (w : Refusal) → r ≡ Err w → Unchanged (counts κ a) (list κ a) (left κ r x)
+  refused_unchanged w e = shown.1 (λ z. let n : number_of w ≡ 0 = sym (ap (λ (y : Result Audited Refusal). (values_of y).number) e) ∙ z in omega (arith, (numbered w).0))

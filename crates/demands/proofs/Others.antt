@@ -1,4 +1,5 @@
 -- Demand 1 of the other calls that read, `reader::read_flat`, `survey::survey` and `survey::locate`; and demand 2 of the first: with its zone records laid into a list it is reading. Assumes nothing.
+use Rattle.layout.specs.Replies.{refuses}
 use Prim.Native.Nat.{ℕ}
 use mathlib.Core.Path.{◌≡◌, sym, ap, ◌∙◌}
 use mathlib.Core.List.{List}
@@ -10,7 +11,6 @@ use Rattle.facts.specs.Only.{Only}
 use Rattle.facts.specs.OnlyLeft.{OnlyLeft}
 use Rattle.mesh.specs.declared.Zone.{Zone}
 use Rattle.layout.specs.declared.Refusal.{Refusal}
-use Rattle.layout.specs.declared.Reply.{Reply}
 use Rattle.layout.specs.Rows.{Lent, no_zone}
 use Rattle.layout.specs.Replies.{Points}
 use Rattle.layout.specs.Read.{Result, read_of}
@@ -37,7 +37,7 @@ told_reads s n t c e =
     let h = ap (λ (y : Told). y.held) e in
     flat_is_read s n t c (λ i. record { found = record { reply = p i; zones = z i; flat = f i }; held = h i })
 
-told_refused : (s : List ℕ) (n : ℕ) (t : Tables) (c : Core) → told c ≡ told (core_of s n t) → (w : Refusal) (k o : ℕ) → c.found.reply ≡ Reply.Refused w k o → Points s w k o × (c.held ≡ t)
+told_refused : (s : List ℕ) (n : ℕ) (t : Tables) (c : Core) → told c ≡ told (core_of s n t) → (w : Refusal) (k o : ℕ) → c.found.reply ≡ refuses w k o → Points s w k o × (c.held ≡ t)
 told_refused s n t c e w k o q =
     let zs = replicate n no_zone in
     let z = told_reads s n t c e zs (length-replicate n no_zone) in
@@ -55,7 +55,7 @@ pub flat_only : OnlyLeft flat_leaves flats.Post
 flat_only = read_flat_only
 
 module _ (κ : Lfts 5) (a : Args flat.signature κ) (r : Res flat.signature κ) (x : AtExit flat.ended κ) (p : flats.Post κ a r x) where
-  pub flat_refused : (w : Refusal) (k o : ℕ) → r.reply ≡ Reply.Refused w k o → Points a.0.now w k o × (flat_leaves κ x ≡ flat_takes κ a)
+  pub flat_refused : (w : Refusal) (k o : ℕ) → r.reply ≡ refuses w k o → Points a.0.now w k o × (flat_leaves κ x ≡ flat_takes κ a)
   flat_refused = told_refused a.0.now a.1.1.1.1.1.0 (flat_takes κ a) (record { found = r; held = flat_leaves κ x }) p
 
   pub flat_reads : (zs : List Zone) → length zs ≡ a.1.1.1.1.1.0 → with_zones (record { found = r; held = flat_leaves κ x }) zs ≡ read_of a.0.now (with_list (flat_takes κ a) zs)

@@ -1,6 +1,7 @@
 -- The three demands in the user's words, over the contracts of the public calls; proofs/Demands shows them of every call that meets its contract.
 -- `Not` names a wrong program that the line shuts out, and the must-fail edit (crate/name) that shows the prover refusing it. To be believed: all of this file. Assumes nothing.
-use Rattle.std.specs.Prelude.{ℕ, ◌-◌, ◌≤◌, ◌<◌, ◌≡◌, ◌⊎◌, ◌↔◌, length, take, drop, get_or}
+use Rattle.layout.specs.Replies.{refuses}
+use Rattle.std.specs.Prelude.{ℕ, ◌-◌, ◌≤◌, ◌<◌, ◌≡◌, ◌⊎◌, ◌↔◌, length, take, drop, get_or, Err}
 use mathlib.Core.List.{List, ◌++◌, Memᴰ}
 use contract.Lifetimes.{Lfts}
 use denote.Triple.Entry.{Args, Res}
@@ -8,7 +9,6 @@ use denote.Triple.Clauses.{AtExit}
 use Rattle.sizes.specs.Sizes.{rows}
 use Rattle.mesh.specs.Rows.{places, face_words, cell_words, rows_in}
 use Rattle.layout.specs.declared.Refusal as File
-use Rattle.layout.specs.declared.Reply.{Reply}
 use Rattle.layout.specs.Items.{Item}
 use Rattle.layout.specs.Rows.{Lent, room_of}
 use Rattle.layout.specs.Replies.{shown, Points}
@@ -22,7 +22,6 @@ use Rattle.faults.specs.Sides.{Tables, count_of}
 use Rattle.faults.specs.Wrong.{Wrong}
 use Rattle.faults.specs.Order.{Before}
 use Rattle.audit.specs.declared.Refusal.{Refusal}
-use Rattle.audit.specs.declared.Audited.{Audited}
 use Rattle.audit.specs.Audit.{tables, number_of, values_of, Out, out}
 use Rattle.reader.proofs.Only.{takes, leaves, Post}
 use Rattle.reader.specs.contracts.read as read
@@ -54,15 +53,15 @@ pub record FileAnswered (κ : Lfts 6) (a : Args read.signature κ) (r : Res read
   -- number, section and byte as layout/specs/Read defines them. Not: another number (endings/missing_declaration_called_untiled), another section (survey/sections_counted_from_one)
   pub told : shown r ≡ shown (read_of a.0.now (takes κ a)).reply
   -- a number from 1 to 14, a section that the file has begun, a byte of the file or its end
-  pub points : (w : File.Refusal) (k o : ℕ) → r ≡ Reply.Refused w k o → Points a.0.now w k o
+  pub points : (w : File.Refusal) (k o : ℕ) → r ≡ refuses w k o → Points a.0.now w k o
   -- Not: a refusal that writes (filling/refusal_that_writes, layout/refusal_empties_a_table)
-  pub untouched : (w : File.Refusal) (k o : ℕ) → r ≡ Reply.Refused w k o → leaves κ x ≡ takes κ a
+  pub untouched : (w : File.Refusal) (k o : ℕ) → r ≡ refuses w k o → leaves κ x ≡ takes κ a
 
 pub record TableAnswered (κ : Lfts 4) (a : Args audit.signature κ) (r : Res audit.signature κ) (x : AtExit audit.ended κ) : Type 0 where
   pub only : (r' : Res audit.signature κ) (x' : AtExit audit.ended κ) → audits.Post κ a r' x' → (r ≡ r') × (left κ r x ≡ left κ r' x')
   -- Not: another number (audit/refusals_in_another_order)
-  pub numbered : (w : Refusal) → r ≡ Audited.Refused w → (15 ≤ number_of w) × (number_of w ≤ 17)
-  pub untouched : (w : Refusal) → r ≡ Audited.Refused w → ((left κ r x).counts ≡ counts κ a) × ((left κ r x).list ≡ list κ a)
+  pub numbered : (w : Refusal) → r ≡ Err w → (15 ≤ number_of w) × (number_of w ≤ 17)
+  pub untouched : (w : Refusal) → r ≡ Err w → ((left κ r x).counts ≡ counts κ a) × ((left κ r x).list ≡ list κ a)
 
 -- ---- 2. "A file is accepted exactly when it keeps the layout and the lent tables and zone list have room. Then every row and record holds what the text says"
 pub record Fits (s : List ℕ) (lent : Lent) : Type 0 where

@@ -12,6 +12,7 @@ use lib.Bits.{bit_and, bit_or, bit_xor, and_block, or_block, xor_block, and_le_r
 use lib.Pow.{shl-shr}
 use Rattle.facts.proofs.Branch.{split, differ}
 use Rattle.facts.proofs.Decides.{and_split}
+use Rattle.digits.specs.declared.group.Base.{Base}
 use Rattle.digits.specs.Digits.{digit_of}
 use Rattle.digits.specs.Lanes.{lanes, Under, figures_of, letters_of, shown_of, marks_of, values_of, paired_of, folded_of, base_of, unlike_of}
 use Rattle.digits.proofs.Laning.{Small, Apart, sum_apart, lanewise, lanes_times, under_more, pair_up, paired_lanes, paired_under, paired_half, written, paired_written, written_alone}
@@ -34,42 +35,42 @@ figure low = bit_xor (low + 80) (low + 70)
 abbrev letter : ℕ → ℕ
 letter low = bit_xor (bit_or low 32 + 31) (bit_or low 32 + 25)
 
-abbrev shows : Bool → ℕ → ℕ
-shows hex low = elim hex [ true ↦ bit_or (figure low) (letter low) | false ↦ figure low ]
+abbrev shows : Base → ℕ → ℕ
+shows base low = elim base [ Base.Sixteen ↦ bit_or (figure low) (letter low) | Base.Ten ↦ figure low ]
 
-abbrev mark : Bool → ℕ → ℕ
-mark hex b = bit_or (bit_xor (bit_and (shows hex (bit_and b 127)) 128) 128) (bit_and b 128)
+abbrev mark : Base → ℕ → ℕ
+mark base b = bit_or (bit_xor (bit_and (shows base (bit_and b 127)) 128) 128) (bit_and b 128)
 
-abbrev pub value : Bool → ℕ → ℕ
-value hex b = elim hex [ true ↦ bit_and b 15 + bit_and b 64 / 64 * 9 | false ↦ bit_and b 15 ]
+abbrev pub value : Base → ℕ → ℕ
+value base b = elim base [ Base.Sixteen ↦ bit_and b 15 + bit_and b 64 / 64 * 9 | Base.Ten ↦ bit_and b 15 ]
 
 -- 128 where no digit stands
-abbrev pub mark_of : Bool → ℕ → ℕ
-mark_of hex b = elim (ltb (digit_of b) (base_of hex)) [ true ↦ 0 | false ↦ 128 ]
+abbrev pub mark_of : Base → ℕ → ℕ
+mark_of base b = elim (ltb (digit_of b) (base_of base)) [ true ↦ 0 | false ↦ 128 ]
 
-marks_all : (hex : Bool) → each 256 (λ b. eqb (mark hex b) (mark_of hex b)) ≡ true
+marks_all : (base : Base) → each 256 (λ b. eqb (mark base b) (mark_of base b)) ≡ true
 unfolding digit_of
-marks_all true = refl
-marks_all false = refl
+marks_all Base.Sixteen = refl
+marks_all Base.Ten = refl
 
-values_all : (hex : Bool) → each 256 (λ b. not (ltb (digit_of b) (base_of hex)) || eqb (value hex b) (digit_of b)) ≡ true
+values_all : (base : Base) → each 256 (λ b. not (ltb (digit_of b) (base_of base)) || eqb (value base b) (digit_of b)) ≡ true
 unfolding digit_of
-values_all true = refl
-values_all false = refl
+values_all Base.Sixteen = refl
+values_all Base.Ten = refl
 
 tens_all : each 256 (λ b. eqb (bit_and b 64) (bit_and b 64 / 64 * 64)) ≡ true
 tens_all = refl
 
-mark_is : (hex : Bool) (b : ℕ) → b < 256 → mark hex b ≡ mark_of hex b
-mark_is hex b h = eqb-true _ _ (each_is 256 (λ c. eqb (mark hex c) (mark_of hex c)) (marks_all hex) b h)
+mark_is : (base : Base) (b : ℕ) → b < 256 → mark base b ≡ mark_of base b
+mark_is base b h = eqb-true _ _ (each_is 256 (λ c. eqb (mark base c) (mark_of base c)) (marks_all base) b h)
 
 or_second : (a b : Bool) → a ≡ true → (not a || b) ≡ true → b ≡ true
 or_second true b p q = q
 or_second false b p q = differ false p refl
 
-pub value_is : (hex : Bool) (b : ℕ) → b < 256 → digit_of b < base_of hex → value hex b ≡ digit_of b
-value_is hex b h l =
-    eqb-true _ _ (or_second (ltb (digit_of b) (base_of hex)) _ (lt-ltb _ _ l) (each_is 256 (λ c. not (ltb (digit_of c) (base_of hex)) || eqb (value hex c) (digit_of c)) (values_all hex) b h))
+pub value_is : (base : Base) (b : ℕ) → b < 256 → digit_of b < base_of base → value base b ≡ digit_of b
+value_is base b h l =
+    eqb-true _ _ (or_second (ltb (digit_of b) (base_of base)) _ (lt-ltb _ _ l) (each_is 256 (λ c. not (ltb (digit_of c) (base_of base)) || eqb (value base c) (digit_of c)) (values_all base) b h))
 
 -- ---- lane by lane
 pub map_same : (f g : ℕ → ℕ) → ((b : ℕ) → b < 256 → f b ≡ g b) → (w : List ℕ) → Under 256 w → map f w ≡ map g w
@@ -99,9 +100,9 @@ small_figure b h = xor_lt 8 (low b + 80) (low b + 70) (omega (arith, small_low b
 small_letter : Small (λ b. letter (low b))
 small_letter b h = xor_lt 8 (bit_or (low b) 32 + 31) (bit_or (low b) 32 + 25) (omega (arith, small_raised b)) (omega (arith, small_raised b))
 
-small_shows : (hex : Bool) → Small (λ b. shows hex (low b))
-small_shows true b h = or_lt 8 (figure (low b)) (letter (low b)) (small_figure b h) (small_letter b h)
-small_shows false b h = small_figure b h
+small_shows : (base : Base) → Small (λ b. shows base (low b))
+small_shows Base.Sixteen b h = or_lt 8 (figure (low b)) (letter (low b)) (small_figure b h) (small_letter b h)
+small_shows Base.Ten b h = small_figure b h
 
 pub small_and : (g : ℕ → ℕ) (c : ℕ) → c < 256 → Small (λ b. bit_and (g b) c)
 small_and g c l b h = lt_of_le_of_lt (and_le_r (g b) c) l
@@ -171,20 +172,20 @@ module _ (w : List ℕ) (n : length w ≡ 8) (u : Under 256 w) where
       both bit_xor xor_block refl (λ b. bit_or (low b) 32 + 31) (λ b. bit_or (low b) 32 + 25) (λ b h. omega (arith, small_raised b)) (λ b h. omega (arith, small_raised b))
       (added (λ b. bit_or (low b) 32) 31 0x1f1f1f1f1f1f1f1f t (lit< tt) refl r) (added (λ b. bit_or (low b) 32) 25 0x1919191919191919 t (lit< tt) refl r)
 
-  shown_in : (hex : Bool) {x : ℕ} → In low x → In (λ b. shows hex (low b)) (shown_of hex x)
-  shown_in true p = both bit_or or_block refl (λ b. figure (low b)) (λ b. letter (low b)) small_figure small_letter (figures_in p) (letters_in p)
-  shown_in false p = figures_in p
+  shown_in : (base : Base) {x : ℕ} → In low x → In (λ b. shows base (low b)) (shown_of base x)
+  shown_in Base.Sixteen p = both bit_or or_block refl (λ b. figure (low b)) (λ b. letter (low b)) small_figure small_letter (figures_in p) (letters_in p)
+  shown_in Base.Ten p = figures_in p
 
-  pub marks_in : (hex : Bool) → marks_of hex (lanes 8 w) ≡ lanes 8 (map (mark_of hex) w)
+  pub marks_in : (base : Base) → marks_of base (lanes 8 w) ≡ lanes 8 (map (mark_of base) w)
   unfolding lanes
-  marks_in hex =
+  marks_in base =
       let top = same 128 0x8080808080808080 refl in
-      let is = both bit_and and_block refl (λ b. shows hex (low b)) (λ _. 128) (small_shows hex) (λ b h. lit< tt) (shown_in hex lows) top in
-      let sa = small_and (λ b. shows hex (low b)) 128 (lit< tt) in
-      let no = both bit_xor xor_block refl (λ b. bit_and (shows hex (low b)) 128) (λ _. 128) sa (λ b h. lit< tt) is top in
-      let sx : Small (λ b. bit_xor (bit_and (shows hex (low b)) 128) 128) = λ b h. xor_lt 8 _ 128 (sa b h) (lit< tt) in
-      both bit_or or_block refl (λ b. bit_xor (bit_and (shows hex (low b)) 128) 128) (λ b. bit_and b 128) sx (small_and (λ b. b) 128 (lit< tt)) no (masked 128 0x8080808080808080 (lit< tt) refl)
-      ∙ ap (lanes 8) (map_same (mark hex) (mark_of hex) (mark_is hex) w u)
+      let is = both bit_and and_block refl (λ b. shows base (low b)) (λ _. 128) (small_shows base) (λ b h. lit< tt) (shown_in base lows) top in
+      let sa = small_and (λ b. shows base (low b)) 128 (lit< tt) in
+      let no = both bit_xor xor_block refl (λ b. bit_and (shows base (low b)) 128) (λ _. 128) sa (λ b h. lit< tt) is top in
+      let sx : Small (λ b. bit_xor (bit_and (shows base (low b)) 128) 128) = λ b h. xor_lt 8 _ 128 (sa b h) (lit< tt) in
+      both bit_or or_block refl (λ b. bit_xor (bit_and (shows base (low b)) 128) 128) (λ b. bit_and b 128) sx (small_and (λ b. b) 128 (lit< tt)) no (masked 128 0x8080808080808080 (lit< tt) refl)
+      ∙ ap (lanes 8) (map_same (mark base) (mark_of base) (mark_is base) w u)
 
   tens : bit_and (lanes 8 w) 0x4040404040404040 / 64 * 9 ≡ lanes 8 (map (λ b. bit_and b 64 / 64 * 9) w)
   unfolding lanes
@@ -196,11 +197,11 @@ module _ (w : List ℕ) (n : length w ≡ 8) (u : Under 256 w) where
       ∙ lanes_times 8 t 64 w in
       ap (λ (x : ℕ). x / 2 ^ 6 * 9) e ∙ ap (λ (x : ℕ). x * 9) (shl-shr (lanes 8 (map t w)) 6) ∙ sym (lanes_times 8 t 9 w)
 
-  pub values_in : (hex : Bool) → values_of hex (lanes 8 w) ≡ lanes 8 (map (value hex) w)
+  pub values_in : (base : Base) → values_of base (lanes 8 w) ≡ lanes 8 (map (value base) w)
   unfolding lanes
-  values_in true =
+  values_in Base.Sixteen =
       both (λ a b. a + b) sum_apart refl (λ b. bit_and b 15) (λ b. bit_and b 64 / 64 * 9) (small_and (λ b. b) 15 (lit< tt)) small_tens (masked 15 0x0f0f0f0f0f0f0f0f (lit< tt) refl) tens
-  values_in false = masked 15 0x0f0f0f0f0f0f0f0f (lit< tt) refl
+  values_in Base.Ten = masked 15 0x0f0f0f0f0f0f0f0f (lit< tt) refl
 
 -- ---- eight digits as one number
 module _ (b : ℕ) (few : b ≤ 16) (w : List ℕ) (n : length w ≡ 8) (u : Under b w) where

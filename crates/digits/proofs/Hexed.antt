@@ -4,11 +4,11 @@ use native.Mathlib.Nat.{lt_of_lt_of_le, pow-le-pow_right}
 use native.Mathlib.Omega.{arith}
 use mathlib.Core.Path.{◌≡◌, sym, ap, subst, ◌∙◌}
 use mathlib.Core.List.{List}
-use mathlib.Core.Bool.{true}
 use borrow.Author.Tests.{le-leb, lt-leb}
 use lib.Dec.{lit<}
 use lib.ListN.{length, take, drop, length-append}
 use lib.Seq.{take_all}
+use Rattle.digits.specs.declared.group.Base.{Base}
 use Rattle.digits.specs.declared.group.Group.{Group}
 use Rattle.digits.specs.Lanes.{Laned, group_by, Grouped}
 use Rattle.digits.specs.Digits.{digits_in}
@@ -21,7 +21,7 @@ module _ (w : List ℕ) where
   hexes_long h = rw (lt-leb (length w) 8 h, hexes_of)
 
   -- the digits of all the bytes at once
-  pub hexes_grouped : (x : ℕ) (g : Group) → length w ≤ 8 → Laned (take 8 (drop 0 w)) x → Grouped true x g → g ≡ group_by (digits_in 16 0 0 w)
+  pub hexes_grouped : (x : ℕ) (g : Group) → length w ≤ 8 → Laned (take 8 (drop 0 w)) x → Grouped Base.Sixteen x g → g ≡ group_by (digits_in 16 0 0 w)
   hexes_grouped x g h l s =
       let e : take 8 (drop 0 w) ≡ w = take_all 8 w h in
       s.says w (subst (λ v. Laned v x) e l) h

@@ -1,6 +1,7 @@
 -- Bytes side by side in one number, the first lowest, and digits among them. No mesher need read it: only contracts of functions that look at eight bytes at once cite it, none of reading. Assumes nothing.
-use Rattle.std.specs.Prelude.{ℕ, zero, ◌+◌, ◌*◌, ◌/◌, ◌^◌, ◌≤◌, ◌<◌, ◌≡◌, List, [], ◌∷◌, Bool, true, false, length}
+use Rattle.std.specs.Prelude.{ℕ, zero, ◌+◌, ◌*◌, ◌/◌, ◌^◌, ◌≤◌, ◌<◌, ◌≡◌, List, [], ◌∷◌, length}
 use Rattle.std.specs.Int.Bits.{bit_and, bit_or, bit_xor}
+use Rattle.digits.specs.declared.group.Base.{Base}
 use Rattle.digits.specs.declared.group.Group.{Group}
 use Rattle.digits.specs.Digits.{Digits, digits_in}
 
@@ -29,21 +30,21 @@ figures_of low = bit_xor (low + 0x5050505050505050) (low + 0x4646464646464646)
 abbrev pub letters_of : ℕ → ℕ
 letters_of low = bit_xor (bit_or low 0x2020202020202020 + 0x1f1f1f1f1f1f1f1f) (bit_or low 0x2020202020202020 + 0x1919191919191919)
 
-abbrev pub shown_of : Bool → ℕ → ℕ
-shown_of hex low = elim hex [ true ↦ bit_or (figures_of low) (letters_of low) | false ↦ figures_of low ]
+abbrev pub shown_of : Base → ℕ → ℕ
+shown_of base low = elim base [ Base.Sixteen ↦ bit_or (figures_of low) (letters_of low) | Base.Ten ↦ figures_of low ]
 
 -- the highest bit of each lane in which no digit stands
-abbrev pub marks_of : Bool → ℕ → ℕ
-marks_of hex x =
-    bit_or (bit_xor (bit_and (shown_of hex (bit_and x 0x7f7f7f7f7f7f7f7f)) 0x8080808080808080) 0x8080808080808080)
+abbrev pub marks_of : Base → ℕ → ℕ
+marks_of base x =
+    bit_or (bit_xor (bit_and (shown_of base (bit_and x 0x7f7f7f7f7f7f7f7f)) 0x8080808080808080) 0x8080808080808080)
     (bit_and x 0x8080808080808080)
 
 -- the value of the digit in each lane
-abbrev pub values_of : Bool → ℕ → ℕ
-values_of hex x =
-    elim hex [
-      | true ↦ bit_and x 0x0f0f0f0f0f0f0f0f + bit_and x 0x4040404040404040 / 64 * 9
-      | false ↦ bit_and x 0x0f0f0f0f0f0f0f0f
+abbrev pub values_of : Base → ℕ → ℕ
+values_of base x =
+    elim base [
+      | Base.Sixteen ↦ bit_and x 0x0f0f0f0f0f0f0f0f + bit_and x 0x4040404040404040 / 64 * 9
+      | Base.Ten ↦ bit_and x 0x0f0f0f0f0f0f0f0f
     ]
 
 -- the highest bit of each lane that is unlike c's
@@ -61,12 +62,12 @@ folded_of b y =
 
 -- ---- what it is
 
-abbrev pub base_of : Bool → ℕ
-base_of hex = elim hex [ true ↦ 16 | false ↦ 10 ]
+abbrev pub base_of : Base → ℕ
+base_of base = elim base [ Base.Sixteen ↦ 16 | Base.Ten ↦ 10 ]
 
 abbrev pub group_by : Digits → Group
 group_by d = record { value = d.value; count = d.count }
 
 -- the digits at the start of at most eight bytes
-pub record Grouped (hex : Bool) (x : ℕ) (r : Group) : Type 0 where
-  pub says : (w : List ℕ) → Laned w x → length w ≤ 8 → r ≡ group_by (digits_in (base_of hex) 0 0 w)
+pub record Grouped (base : Base) (x : ℕ) (r : Group) : Type 0 where
+  pub says : (w : List ℕ) → Laned w x → length w ≤ 8 → r ≡ group_by (digits_in (base_of base) 0 0 w)

@@ -4,11 +4,29 @@ ghost use Rattle.digits.specs.Lanes.{figures_of, letters_of, shown_of, marks_of,
 
 use super::HIGHS;
 
+// The number that digits are read to.
+#[derive(Clone, Copy, Debug, PartialEq, Eq)]
+pub enum Base {
+    Ten,
+    Sixteen,
+}
+
 // The number that the digits write, and how many they are.
-#[derive(Clone, Copy)]
+#[derive(Clone, Copy, Debug, PartialEq, Eq)]
 pub struct Group {
     pub value: u64,
     pub count: u32,
+}
+
+impl Base {
+    fn number(self) -> u64
+        ensures { result ≡ base_of self }
+    {
+        match self {
+            Base::Ten => 10,
+            Base::Sixteen => 16,
+        }
+    }
 }
 
 fn figures(low: u64) -> u64
@@ -30,42 +48,46 @@ fn letters(low: u64) -> u64
     from ^ past
 }
 
-// Where digits stand; a base is 16 or 10.
-fn shown(low: u64, hex: bool) -> u64
+// Where digits stand.
+fn shown(low: u64, base: Base) -> u64
     requires { low ≤ 0x7f7f7f7f7f7f7f7f }
-    ensures { result ≡ shown_of hex low }
+    ensures { result ≡ shown_of base low }
 {
     let f = figures(low);
-    if hex {
-        let l = letters(low);
-        return f | l;
+    match base {
+        Base::Ten => f,
+        Base::Sixteen => {
+            let l = letters(low);
+            f | l
+        }
     }
-    f
 }
 
 // Where none stands.
-pub fn marks(x: u64, hex: bool) -> u64
-    ensures { result ≡ marks_of hex x }
+pub fn marks(x: u64, base: Base) -> u64
+    ensures { result ≡ marks_of base x }
 {
     let low = x & 0x7f7f7f7f7f7f7f7f;
-    let is = shown(low, hex);
+    let is = shown(low, base);
     let high = is & HIGHS;
     let none = high ^ HIGHS;
     let above = x & HIGHS;
     none | above
 }
 
-pub(crate) fn values(x: u64, hex: bool) -> u64
-    ensures { result ≡ values_of hex x }
+pub(crate) fn values(x: u64, base: Base) -> u64
+    ensures { result ≡ values_of base x }
 {
     let low = x & 0x0f0f0f0f0f0f0f0f;
-    if hex {
-        let letter = x & 0x4040404040404040;
-        let one = letter / 64;
-        let more = one * 9;
-        return low + more;
+    match base {
+        Base::Ten => low,
+        Base::Sixteen => {
+            let letter = x & 0x4040404040404040;
+            let one = letter / 64;
+            let more = one * 9;
+            low + more
+        }
     }
-    low
 }
 
 // Neighbouring lanes as one number to the base; `apart` is 2 to the bits of a lane.
@@ -91,26 +113,19 @@ pub(crate) fn folded(y: u64, base: u64) -> u64
     paired(fours, 4294967296, 0xffffffff, power)
 }
 
-fn base_of(hex: bool) -> u64
-    ensures { result ≡ base_of hex }
+pub fn group_of(x: u64, base: Base) -> Group
+    ensures { Grouped base x result }
 {
-    if hex { 16 } else { 10 }
-}
-
-pub fn group_of(x: u64, hex: bool) -> Group
-    ensures { Grouped hex x result }
-{
-    let none = marks(x, hex);
+    let none = marks(x, base);
     let zeros = u64::trailing_zeros(none);
     let count = zeros / 8;
     if count == 0 {
         return Group { value: 0, count };
     }
-    let all = values(x, hex);
+    let all = values(x, base);
     let bits = count * 8;
     let up = 64 - bits;
     let read = all << up;
-    let base = base_of(hex);
-    let value = folded(read, base);
+    let value = folded(read, base.number());
     Group { value, count }
 }

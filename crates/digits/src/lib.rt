@@ -7,7 +7,7 @@ mod lanes;
 mod quick;
 
 pub use couple::{Couple, couple_in, end_in};
-pub use group::{Group, group_of, marks};
+pub use group::{Base, Group, group_of, marks};
 pub use lanes::{bytes_at, unlike};
 pub use quick::{Hexes, hexes_in};
 

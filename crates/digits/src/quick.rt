@@ -2,14 +2,14 @@
 ghost use Rattle.std.specs.Prelude.{◌≡◌};
 ghost use Rattle.digits.specs.Hexes.{hexes_of};
 
-use super::group::group_of;
+use super::group::{Base, group_of};
 use super::lanes::bytes_at;
 
 // Most digits of a hexadecimal number.
 const MOST: usize = 8;
 
 // The number that the digits write, and how many they are.
-#[derive(Clone, Copy)]
+#[derive(Clone, Copy, Debug, PartialEq, Eq)]
 pub struct Hexes {
     pub value: u32,
     pub count: usize,
@@ -23,7 +23,7 @@ pub fn hexes_in(w: &[u8]) -> Hexes
         return Hexes { value: 0, count: 0 };
     }
     let x = bytes_at(w, 0);
-    let g = group_of(x, true);
+    let g = group_of(x, Base::Sixteen);
     let value = g.value as u32;
     let count = g.count as usize;
     Hexes { value, count }

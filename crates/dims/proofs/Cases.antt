@@ -2,10 +2,10 @@
 use mathlib.Core.Path.{◌≡◌, refl}
 use mathlib.Core.Bool.{true, false, ◌||◌}
 use lib.Dec.{eqb}
+use Rattle.std.specs.Prelude.{Some, None}
 use Rattle.layout.specs.Items.{absent, given}
 use Rattle.layout.specs.State.{dim_after, dim_listed}
 use Rattle.spots.specs.declared.Kind.{Kind}
-use Rattle.spots.specs.declared.Fifth.{Fifth}
 use Rattle.dims.specs.Dims.{dim_word_for, agrees, known}
 
 -- `dim_listed`: dimension 4 listed for 3
@@ -13,7 +13,7 @@ dim_listed_lem : (dim_listed (given 4) ≡ false) × ((eqb 4 2 || eqb 4 4) ≡ t
 dim_listed_lem = (refl, refl)
 
 -- `dim_word`: the element of cells taken for a dimension, as the ND of nodes is one
-dim_word_lem : (dim_word_for Kind.Cell (Fifth.Given 4) ≡ Fifth.Absent) × (dim_word_for Kind.Node (Fifth.Given 4) ≡ Fifth.Given 4)
+dim_word_lem : (dim_word_for Kind.Cell (Some 4) ≡ None) × (dim_word_for Kind.Node (Some 4) ≡ Some 4)
 dim_word_lem = (refl, refl)
 
 -- `dim_after`: the dimension forgotten at a header without ND

@@ -1,13 +1,12 @@
 -- The dimension that a fifth word gives, and whether it agrees with the one known before. Assumes nothing.
-use Rattle.std.specs.Prelude.{ℕ, Bool, true, ◌||◌, not, eqb}
+use Rattle.std.specs.Prelude.{ℕ, Bool, true, ◌||◌, not, eqb, Option, None}
 use Rattle.layout.specs.Items as Items
 use Rattle.spots.specs.declared.Kind.{Kind}
-use Rattle.spots.specs.declared.Fifth.{Fifth}
 
-abbrev pub dim_word_for : Kind → Fifth → Fifth
+abbrev pub dim_word_for : Kind → Option ℕ → Option ℕ
 dim_word_for Kind.Node v = v
-dim_word_for Kind.Cell v = Fifth.Absent
-dim_word_for Kind.Face v = Fifth.Absent
+dim_word_for Kind.Cell v = None
+dim_word_for Kind.Face v = None
 
 abbrev pub agrees : ℕ → Items.Perhaps → Bool
 agrees d Items.absent = true

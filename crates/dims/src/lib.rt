@@ -6,53 +6,39 @@ ghost use Rattle.layout.specs.State.{dim_after, dim_listed};
 ghost use Rattle.spots.specs.Heads.{fifth_for};
 ghost use Rattle.dims.specs.Dims.{dim_word_for, agrees, known};
 
-use spots::{Fifth, Kind};
+use spots::Kind;
 
-pub fn dim_listed(v: Fifth) -> bool
+pub fn dim_listed(v: Option<u32>) -> bool
     ensures { result ≡ dim_listed (fifth_for v) }
 {
-    match v {
-        Fifth::Absent => true,
-        Fifth::Given(n) => n == 2 || n == 3,
-    }
+    v.is_none_or(|n| n == 2 || n == 3)
 }
 
 // The dimension that a header's fifth word gives.
-pub fn dim_word(kind: Kind, v: Fifth) -> Fifth
+pub fn dim_word(kind: Kind, v: Option<u32>) -> Option<u32>
     ensures { result ≡ dim_word_for kind v }
 {
     match kind {
         Kind::Node => v,
-        Kind::Cell => Fifth::Absent,
-        Kind::Face => Fifth::Absent,
+        Kind::Cell | Kind::Face => None,
     }
 }
 
-pub fn dim_after(dim: u32, v: Fifth) -> u32
+pub fn dim_after(dim: u32, v: Option<u32>) -> u32
     ensures { result ≡ dim_after dim (fifth_for v) }
 {
-    match v {
-        Fifth::Absent => dim,
-        Fifth::Given(n) => n,
-    }
+    v.unwrap_or(dim)
 }
 
-pub fn dim_agrees(dim: u32, v: Fifth) -> bool
+pub fn dim_agrees(dim: u32, v: Option<u32>) -> bool
     ensures { result ≡ agrees dim (fifth_for v) }
 {
-    match v {
-        Fifth::Absent => true,
-        Fifth::Given(n) => dim == 0 || dim == n,
-    }
+    v.is_none_or(|n| dim == 0 || dim == n)
 }
 
 // A node section needs a dimension.
 pub fn dim_known(kind: Kind, dim: u32) -> bool
     ensures { result ≡ known kind dim }
 {
-    match kind {
-        Kind::Node => dim != 0,
-        Kind::Cell => true,
-        Kind::Face => true,
-    }
+    kind != Kind::Node || dim != 0
 }

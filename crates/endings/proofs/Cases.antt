@@ -1,9 +1,9 @@
 -- Closed cases of the functions that only our own crates call: the right answer, and what a wrong program would have answered there. Assumes nothing.
+use Rattle.layout.specs.Replies.{refuses}
 use mathlib.Core.Path.{◌≡◌, refl}
 use mathlib.Core.List.{[]}
 use mathlib.Core.Bool.{true, ◌&&◌}
 use Rattle.layout.specs.declared.Refusal.{Refusal}
-use Rattle.layout.specs.declared.Reply.{Reply}
 use Rattle.tokens.specs.declared.Token.{Token}
 use Rattle.layout.specs.Items.{dim}
 use Rattle.layout.specs.State.{State, start, after}
@@ -16,7 +16,7 @@ two = after start (dim 2)
 
 -- `last_of`: a missing declaration called untiled
 last_of_lem :
-    (last_of Token.End 5 two 1 5 ≡ Reply.Refused Refusal.Missing 1 5)
-    × (verdict (ending true true (two.nodes.declared && two.faces.declared) (accepted two []) 1 5) ≡ Reply.Refused Refusal.Untiled 1 5)
+    (last_of Token.End 5 two 1 5 ≡ refuses Refusal.Missing 1 5)
+    × (verdict (ending true true (two.nodes.declared && two.faces.declared) (accepted two []) 1 5) ≡ refuses Refusal.Untiled 1 5)
 unfolding end_of
 last_of_lem = (refl, refl)

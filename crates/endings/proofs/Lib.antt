@@ -1,3 +1,2 @@
-mod Closing
 pub mod Only
 mod Cases

@@ -1,71 +1,53 @@
 // What reading a file answers where no section opens: at its end, or at what stands in no file.
 #![tactic(auto)]
 
-ghost use Rattle.std.specs.Prelude.{◌≡◌, ◌&&◌};
+ghost use Rattle.std.specs.Prelude.{◌≡◌};
 ghost use Rattle.layout.specs.Read.{end_of};
+ghost use Rattle.layout.specs.Replies.{refuses};
 ghost use Rattle.sofar.specs.States.{state_for};
-ghost use Rattle.endings.specs.Endings.{verdict, closing, last_of};
+ghost use Rattle.endings.specs.Endings.{verdict, last_of};
 
-use kept::is_tiled;
-use layout::{Refusal, Reply};
+use kept::{Kept, is_tiled};
+use layout::{Accepted, Refusal, Refused};
 use sofar::State;
 use tokens::Token;
 
-fn all_three(a: bool, b: bool, c: bool) -> bool
-    ensures { result ≡ (a && (b && c)) }
+fn refused(why: Refusal, section: u32, offset: usize) -> Result<Accepted, Refused>
+    ensures { result ≡ refuses why section offset }
 {
-    a && (b && c)
-}
-
-fn refused(why: Refusal, section: u32, offset: usize) -> Reply
-    ensures { result ≡ Reply.Refused why section offset }
-{
-    Reply::Refused {
+    Err(Refused {
         why,
         section,
         offset,
-    }
+    })
 }
 
 // "At the end: 13, 10, 14."
-fn closing_of(declared: bool, known: bool, covered: bool, x: State, k: u32, size: usize) -> Reply
-    ensures { result ≡ closing declared known covered x k size }
+#[tactic(auto, unfolding(layout::specs::Read::end_of))]
+fn end_of(x: State, kept: &[Kept], k: u32, size: usize) -> Result<Accepted, Refused>
+    ensures { result ≡ verdict (end_of size (state_for kept.now x) k) }
 {
-    if !declared {
+    let (Some(nodes), Some(faces)) = (x.nodes, x.faces) else {
         return refused(Refusal::Missing, k, size);
-    }
-    if !known {
+    };
+    if x.dim == 0 {
         return refused(Refusal::Dimension, k, size);
     }
-    if !covered {
+    let cells = x.cells.unwrap_or(0);
+    let z = x.zones as usize;
+    let tiled = is_tiled(kept, z, 10, nodes)
+        && is_tiled(kept, z, 12, cells)
+        && is_tiled(kept, z, 13, faces);
+    if !tiled {
         return refused(Refusal::Untiled, k, size);
     }
-    let nodes = x.nodes;
-    let cells = x.cells;
-    let faces = x.faces;
-    Reply::Accepted {
+    Ok(Accepted {
         dim: x.dim,
-        nodes: nodes.total,
-        faces: faces.total,
-        cells: cells.total,
+        nodes,
+        faces,
+        cells,
         zones: x.zones,
-    }
-}
-
-fn end_of(x: State, ids: &[u32], firsts: &[u32], lasts: &[u32], k: u32, size: usize) -> Reply
-    ensures { result ≡ verdict (end_of size (state_for ids.now firsts.now lasts.now x) k) }
-{
-    let nodes = x.nodes;
-    let cells = x.cells;
-    let faces = x.faces;
-    let z = x.zones as usize;
-    let n = is_tiled(ids, firsts, lasts, z, 10, nodes.total);
-    let c = is_tiled(ids, firsts, lasts, z, 12, cells.total);
-    let f = is_tiled(ids, firsts, lasts, z, 13, faces.total);
-    let covered = all_three(n, c, f);
-    let declared = all_three(nodes.declared, faces.declared, true);
-    let known = x.dim != 0;
-    closing_of(declared, known, covered, x, k, size)
+    })
 }
 
 // A token that opens no section: the end, or what stands in no file.
@@ -73,20 +55,14 @@ pub fn last_of(
     kind: Token,
     start: usize,
     x: State,
-    ids: &[u32],
-    firsts: &[u32],
-    lasts: &[u32],
+    kept: &[Kept],
     k: u32,
     size: usize,
-) -> Reply
-    ensures { result ≡ last_of kind start (state_for ids.now firsts.now lasts.now x) k size }
+) -> Result<Accepted, Refused>
+    ensures { result ≡ last_of kind start (state_for kept.now x) k size }
 {
     match kind {
-        Token::End => end_of(x, ids, firsts, lasts, k, size),
-        Token::Left => refused(Refusal::Grammar, k, start),
-        Token::Right => refused(Refusal::Grammar, k, start),
-        Token::Text => refused(Refusal::Grammar, k, start),
-        Token::Word => refused(Refusal::Grammar, k, start),
-        Token::Unclosed => refused(Refusal::Grammar, k, start),
+        Token::End => end_of(x, kept, k, size),
+        _ => refused(Refusal::Grammar, k, start),
     }
 }

@@ -1,5 +1,3 @@
-pub mod Halves
-mod Leaves
 pub mod Over
 pub mod Sides
 pub mod Order

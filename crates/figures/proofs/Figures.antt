@@ -1,5 +1,6 @@
 -- Figures over the base: they write the number, are few, begin with no zero, and are bytes of words. Assumes nothing.
-use Prim.Native.Nat.{ℕ, zero, suc, ◌+◌, ◌-◌, ◌*◌, ◌/◌, ◌%◌, ◌^◌, ◌≤◌, ◌<◌}
+use Rattle.std.specs.Prelude.{Some}
+use Prim.Native.Nat.{ℕ, zero, suc, ◌+◌, ◌*◌, ◌/◌, ◌%◌, ◌^◌, ◌≤◌, ◌<◌}
 use native.Mathlib.Nat.{pow-suc, pow-zero, mod-lt, div-add-mod', div-lt_self, div-lt_iff_lt-mul, le-div_iff_mul-le}
 use native.Mathlib.Omega.{arith}
 use mathlib.Core.Path.{◌≡◌, ap, subst, ◌∙◌}
@@ -11,7 +12,6 @@ use Rattle.facts.proofs.Branch.{either, differ}
 use Rattle.facts.proofs.Decides.{and_join}
 use Rattle.digits.specs.Digits.{within, digit_of, Figures, worth}
 use Rattle.digits.proofs.Digits.{within_is, Begins}
-use Rattle.numbers.specs.declared.whole.Whole.{Whole}
 use Rattle.numbers.specs.Whole.{whole_of}
 use Rattle.numbers.proofs.Wholes.{whole_of_exact}
 use Rattle.figures.specs.Figures.{figure, figures_on, figures, From}
@@ -131,6 +131,6 @@ module _ (base : ℕ) where
     figures_front n = on_front (suc n) n [] (omega arith)
 
     -- they are read back
-    pub figures_back : (n k : ℕ) → n < base ^ suc k → whole_of base (suc k) (figures base n) ≡ Whole.Is n
+    pub figures_back : (n k : ℕ) → n < base ^ suc k → whole_of base (suc k) (figures base n) ≡ Some n
     figures_back n k h =
-        whole_of_exact base (suc k) (figures base n) (figures_digits n) (figures_some n) (figures_few n k h) ∙ ap Whole.Is (figures_worth n)
+        whole_of_exact base (suc k) (figures base n) (figures_digits n) (figures_some n) (figures_few n k h) ∙ ap Some (figures_worth n)

@@ -1,5 +1,6 @@
 -- A canonical pair's text means that pair, and is a short word. Assumes nothing.
-use Prim.Native.Nat.{◌+◌, ◌^◌, ◌≤◌, ◌<◌}
+use Rattle.decimals.specs.Coordinate.{decimal}
+use Prim.Native.Nat.{◌^◌, ◌≤◌, ◌<◌}
 use native.Mathlib.Omega.{arith}
 use mathlib.Core.Path.{◌≡◌, refl, ap, subst, ◌∙◌}
 use mathlib.Core.Logic.{inl}
@@ -12,7 +13,6 @@ use lib.Signed.{le_z}
 use Rattle.digits.specs.Digits.{worth}
 use Rattle.figures.specs.Figures.{figures}
 use Rattle.figures.proofs.Figures.{figures_worth, figures_digits, figures_some, figures_few}
-use Rattle.decimals.specs.declared.decimal.Decimal.{Decimal}
 use Rattle.decimals.specs.Coordinate.{sign_of, parts_of, coordinate_of}
 use Rattle.decimals.specs.Value.{SignText, unsigned, minus, plain, PowerText, powered, Canonical, Means}
 use Rattle.decimals.proofs.Scaled.{same_refl}
@@ -93,5 +93,5 @@ module _ (m e : ℤ) (c : Canonical m e) where
         canonical = c;
       }
 
-  pub text_back : coordinate_of (coordinate_text m e) ≡ Decimal.Is m e
+  pub text_back : coordinate_of (coordinate_text m e) ≡ decimal m e
   text_back = (coordinate_of_exactly (coordinate_text m e) m e).1 text_means

@@ -8,7 +8,7 @@ use lib.Dec.{ltb}
 use lib.ListN.{length}
 use lib.Pow.{pow-add}
 use Rattle.facts.proofs.Branch.{split}
-use Rattle.figures.specs.Figures.{figure, figures}
+use Rattle.figures.specs.Figures.{figures}
 use Rattle.figures.proofs.Shorter.{count_one, count_power}
 
 -- four bits are a figure

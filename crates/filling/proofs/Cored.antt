@@ -1,5 +1,6 @@
 -- A file that was accepted is a good one for the second pass: its items, their widths, their places, the records so far. So the two passes together are reading. Assumes nothing.
-use Rattle.std.specs.Prelude.{◌≡◌, ℕ, suc, ◌+◌, ◌<◌, ◌≤◌, ◌⊎◌, List, [], ◌∷◌, ◌++◌, length, get_or, set, replicate}
+use Rattle.layout.specs.Replies.{Reply, accepts, refuses}
+use Rattle.std.specs.Prelude.{◌≡◌, ℕ, suc, ◌+◌, ◌<◌, ◌≤◌, ◌⊎◌, List, [], ◌∷◌, ◌++◌, length, get_or, set, replicate, Ok, Err}
 use Prim.Native.Nat.{zero-le}
 use native.Mathlib.Omega.{arith}
 use native.Mathlib.Nat.{min-eq_left}
@@ -14,7 +15,6 @@ use Rattle.sizes.specs.Sizes.{zones}
 use Rattle.tokens.specs.Listed.{Tok, tokens_from}
 use Rattle.tokens.proofs.Text.{text_exactly}
 use Rattle.layout.specs.declared.Refusal.{Refusal}
-use Rattle.layout.specs.declared.Reply.{Reply}
 use Rattle.layout.specs.Items.{Perhaps, absent, given, Body, points, elements, facets, Wide, Item, dim, decl, part, other, says_dim}
 use Rattle.layout.specs.Keeps.{Room, Some, SaysDim, DimFits, WidthFits, Fits, parts_in, Laid}
 use Rattle.layout.specs.State.{State, start, after_all}
@@ -112,23 +112,23 @@ has_sets (p ∷ ps) l z h =
 
 -- ---- the two passes
 abbrev dim_of : Reply → ℕ
-dim_of (Reply.Accepted d n f c z) = d
-dim_of (Reply.Refused w k o) = 0
+dim_of (Ok a) = a.dim
+dim_of (Err b) = 0
 
 abbrev zones_in : Reply → ℕ
-zones_in (Reply.Accepted d n f c z) = z
-zones_in (Reply.Refused w k o) = 0
+zones_in (Ok a) = a.zones
+zones_in (Err b) = 0
 
 abbrev wanted : Reply → ℕ
-wanted (Reply.Accepted d n f c z) = 1
-wanted (Reply.Refused w k o) = 0
+wanted (Ok a) = 1
+wanted (Err b) = 0
 
-pub core_refused : (a : Answer) (r : Reply) (t : Tables) → r ≡ verdict a → (w : Refusal) (k o : ℕ) → r ≡ Reply.Refused w k o
+pub core_refused : (a : Answer) (r : Reply) (t : Tables) → r ≡ verdict a → (w : Refusal) (k o : ℕ) → r ≡ refuses w k o
     → ◌≡◌ {A = Core} (record { found = record { reply = r; zones = 0; flat = blank }; held = t }) (core_by a t)
 core_refused (accepted x is) r t e w k o q = absurd (let z : ◌≡◌ {A = ℕ} 1 0 = ap wanted (sym e ∙ q) in omega arith)
 core_refused (refused v j p) r t e w k o q = ap (λ y. record { found = record { reply = y; zones = 0; flat = blank }; held = t }) e
 
-module _ (room : Room) (s : List ℕ) (t : Tables) (r : Reply) (e : r ≡ verdict (answer_of room s)) (d n f c z : ℕ) (q : r ≡ Reply.Accepted d n f c z) where
+module _ (room : Room) (s : List ℕ) (t : Tables) (r : Reply) (e : r ≡ verdict (answer_of room s)) (d n f c z : ℕ) (q : r ≡ accepts d n f c z) where
   few_by : (a : Answer) → answer_of room s ≡ a → z ≤ zones
   few_by (refused w k o) u = absurd (let y : ◌≡◌ {A = ℕ} 1 0 = ap wanted (sym q ∙ e ∙ ap verdict u) in omega arith)
   few_by (accepted x is) u = let y : z ≡ x.zones = ap zones_in (sym q ∙ e ∙ ap verdict u) in omega (arith, zones_are room s x is u, few_zones room s x is u)
@@ -138,13 +138,13 @@ module _ (room : Room) (s : List ℕ) (t : Tables) (r : Reply) (e : r ≡ verdic
 
   by_answer : (a : Answer) → answer_of room s ≡ a → (width : ℕ) → width ≡ coordinates_in d → (places : List ℕ) → places ≡ places_of room s → (count : ℕ) → count ≡ z
       → (new : Tabled) → Fills s places count width (record { mantissas = t.mantissas; exponents = t.exponents; faces = t.faces; cells = t.cells; list = blank }) new
-      → ◌≡◌ {A = Core} (record { found = record { reply = Reply.Accepted d n f c z; zones = count; flat = new.list }; held = record { mantissas = new.mantissas; exponents = new.exponents; faces = new.faces; cells = new.cells } }) (core_by a t)
+      → ◌≡◌ {A = Core} (record { found = record { reply = accepts d n f c z; zones = count; flat = new.list }; held = record { mantissas = new.mantissas; exponents = new.exponents; faces = new.faces; cells = new.cells } }) (core_by a t)
   by_answer (refused w k o) u width v places pl count m new g = absurd (let y : ◌≡◌ {A = ℕ} 1 0 = ap wanted (sym q ∙ e ∙ ap verdict u) in omega arith)
   by_answer (accepted x is) u width v places pl count m new g =
       let l = laid_of room s x is u in
       let h = (text_exactly s l.tokens).1 l.text in
       let k : Laid room (tokens_from s 0) is = subst (λ y. Laid room y is) (sym h) l.laid in
-      let y : r ≡ Reply.Accepted x.dimension x.nodes.total x.faces.total x.cells.total x.zones = e ∙ ap verdict u in
+      let y : r ≡ accepts x.dimension x.nodes.total x.faces.total x.cells.total x.zones = e ∙ ap verdict u in
       let a : d ≡ x.dimension = ap dim_of (sym q ∙ y) in
       let b : x.dimension ≡ (after_all start is).dimension = ap (λ (i : State). i.dimension) (stated room s x is u) in
       let w : width ≡ (after_all start is).dimension = v ∙ ap coordinates_in (a ∙ b) ∙ width_is room (tokens_from s 0) is k in
@@ -155,10 +155,10 @@ module _ (room : Room) (s : List ℕ) (t : Tables) (r : Reply) (e : r ≡ verdic
       let new_is : new ≡ laid_from is 0 (record { mantissas = t.mantissas; exponents = t.exponents; faces = t.faces; cells = t.cells; list = blank }) =
       g is (sites_of room s) stand has (long ∙ sym (zones_are room s x is u) ∙ sym o) (subst (λ i. AllFit i 0 is) (sym w) (all_fit room (tokens_from s 0) is k [] is refl)) in
       ap (λ i. record { found = record { reply = i; zones = count; flat = new.list }; held = record { mantissas = new.mantissas; exponents = new.exponents; faces = new.faces; cells = new.cells } }) (sym q ∙ y)
-      ∙ ap (λ i. record { found = record { reply = Reply.Accepted x.dimension x.nodes.total x.faces.total x.cells.total x.zones; zones = i; flat = new.list }; held = record { mantissas = new.mantissas; exponents = new.exponents; faces = new.faces; cells = new.cells } }) o
-      ∙ ap (λ (i : Tabled). record { found = record { reply = Reply.Accepted x.dimension x.nodes.total x.faces.total x.cells.total x.zones; zones = x.zones; flat = i.list }; held = record { mantissas = i.mantissas; exponents = i.exponents; faces = i.faces; cells = i.cells } }) new_is
+      ∙ ap (λ i. record { found = record { reply = accepts x.dimension x.nodes.total x.faces.total x.cells.total x.zones; zones = i; flat = new.list }; held = record { mantissas = new.mantissas; exponents = new.exponents; faces = new.faces; cells = new.cells } }) o
+      ∙ ap (λ (i : Tabled). record { found = record { reply = accepts x.dimension x.nodes.total x.faces.total x.cells.total x.zones; zones = x.zones; flat = i.list }; held = record { mantissas = i.mantissas; exponents = i.exponents; faces = i.faces; cells = i.cells } }) new_is
 
   pub core_accepted : (width : ℕ) → width ≡ coordinates_in d → (places : List ℕ) → places ≡ places_of room s → (count : ℕ) → count ≡ z
       → (new : Tabled) → Fills s places count width (record { mantissas = t.mantissas; exponents = t.exponents; faces = t.faces; cells = t.cells; list = blank }) new
-      → ◌≡◌ {A = Core} (record { found = record { reply = Reply.Accepted d n f c z; zones = count; flat = new.list }; held = record { mantissas = new.mantissas; exponents = new.exponents; faces = new.faces; cells = new.cells } }) (core_by (answer_of room s) t)
+      → ◌≡◌ {A = Core} (record { found = record { reply = accepts d n f c z; zones = count; flat = new.list }; held = record { mantissas = new.mantissas; exponents = new.exponents; faces = new.faces; cells = new.cells } }) (core_by (answer_of room s) t)
   core_accepted = by_answer (answer_of room s) refl

@@ -31,7 +31,7 @@ use Rattle.points.proofs.Good.{points_good}
 use Rattle.again.specs.Again.{Then, Steps}
 use Rattle.again.proofs.Then.{then_is, then_more, then_pure, then_enclosed}
 use Rattle.again.proofs.Puts.{map_replicate, map_joined}
-use Rattle.filling.specs.declared.tops.Top.{Top}
+use Rattle.facts.specs.declared.Taken.{Taken}
 use Rattle.tables.specs.Places.{words_of}
 use Rattle.filling.specs.Passing.{face_form, Bodied, Fitting, Regular, laid_by, Recorded, Passes}
 use Rattle.filling.proofs.Mapped.{enclosed_unmapped}
@@ -72,33 +72,33 @@ pub then_any : (size d n : ℕ) (k : Kind) (v : Perhaps) (ts : List Tok) (Q : Bo
 then_any size d n k v ts Q c h = subst (λ y. Then y (λ b us. Q b)) (body_any size d n k v ts c) h
 
 -- ---- a section, from behind its id
-module _ (s : List ℕ) (at z d : ℕ) (k : Kind) (top : Top)
-    (h₀ : Steps s top.next (head_of (length s) k (tokens_from s at)) (λ x. top.zone ≡ zone_of k (header_of x))) where
+module _ (s : List ℕ) (at z d : ℕ) (k : Kind) (top : Taken Zone)
+    (h₀ : Steps s top.next (head_of (length s) k (tokens_from s at)) (λ x. top.value ≡ zone_of k (header_of x))) where
   record Headed (h : Header) (t₁ : List Tok) : Type 0 where
-    zone : top.zone ≡ zone_of k h
+    zone : top.value ≡ zone_of k h
     behind : tokens_from s top.next ≡ t₁
 
   headed : (h : Header) (t₁ : List Tok) → Heads (length s) k (tokens_from s at) t₁ h → Headed h t₁
   headed h t₁ w =
-      let y = then_is (λ x us. (top.zone ≡ zone_of k (header_of x)) × (tokens_from s top.next ≡ us)) w.head t₁ w.reads h₀ in
+      let y = then_is (λ x us. (top.value ≡ zone_of k (header_of x)) × (tokens_from s top.next ≡ us)) w.head t₁ w.reads h₀ in
       record { zone = y.0 ∙ ap (zone_of k) w.says; behind = y.1 }
 
   as_filled : (h : Header) (t₁ : List Tok) → Heading (tokens_from s at) h t₁ → FifthOf k h.fifth → Headed h t₁
   as_filled h t₁ a f = headed h t₁ (head_is (length s) a k (lacks_part (length s) (eqb h.zone 0) k h.fifth f))
 
   module _ (n : ℕ) (old new : List ℕ) (B : Header → Body → Type 0) (Q : Item → Type 0)
-      (count : n ≡ count_for top.zone.first top.zone.last) (list : new ≡ sets old (6 * z) (words_of top.zone))
-      (body : (h : Header) → FifthOf k h.fifth → top.zone ≡ zone_of k h → Then (body_of (length s) k d n h.fifth (tokens_from s top.next)) (λ b us. B h b))
-      (q : (h : Header) (b : Body) → top.zone ≡ zone_of k h → B h b → Q (part k h b)) where
+      (count : n ≡ count_for top.value.first top.value.last) (list : new ≡ sets old (6 * z) (words_of top.value))
+      (body : (h : Header) → FifthOf k h.fifth → top.value ≡ zone_of k h → Then (body_of (length s) k d n h.fifth (tokens_from s top.next)) (λ b us. B h b))
+      (q : (h : Header) (b : Body) → top.value ≡ zone_of k h → B h b → Q (part k h b)) where
     counted : (h : Header) → 1 ≤ h.first → h.first ≤ h.last → count_for h.first h.last ≡ count_of h
     counted h p o = let x : h.last - h.first + 1 ≡ suc h.last - h.first = omega arith in sym (count_some h.first h.last p o) ∙ x
 
     by_filled : (h : Header) (b : Body) → Regular k (tokens_from s at) h b → Fitting d z k h b → Q (part k h b) × Recorded z k h old new
     by_filled h b r f =
         let w = as_filled h r.inside r.heading f.fifth in
-        let g : top.zone.first ≡ h.first = ap (λ (u : Zone). u.first) w.zone in
-        let j : top.zone.last ≡ h.last = ap (λ (u : Zone). u.last) w.zone in
-        let x : n ≡ count_of h = count ∙ ap (λ y. count_for y top.zone.last) g ∙ ap (count_for h.first) j ∙ counted h f.low f.order in
+        let g : top.value.first ≡ h.first = ap (λ (u : Zone). u.first) w.zone in
+        let j : top.value.last ≡ h.last = ap (λ (u : Zone). u.last) w.zone in
+        let x : n ≡ count_of h = count ∙ ap (λ y. count_for y top.value.last) g ∙ ap (count_for h.first) j ∙ counted h f.low f.order in
         let v = then_is (λ y us. B h y) b r.behind
         (ap (λ y. body_of (length s) k d y h.fifth (tokens_from s top.next)) x ∙ ap (body_of (length s) k d (count_of h) h.fifth) w.behind ∙ body_is (length s) d r.body f.wide)
         (body h f.fifth w.zone) in

@@ -1,7 +1,11 @@
 -- A regular section by its id: it is of one kind, and the tables of the others stay. Assumes nothing.
-use Rattle.std.specs.Prelude.{◌≡◌, ℕ, false, List, length}
+use Rattle.std.specs.Prelude.{◌≡◌, ℕ, Bool, true, false, eqb, List, length, Option, Some, None}
 use native.Mathlib.Omega.{arith}
-use mathlib.Core.Path.{refl, sym, ◌∙◌, subst}
+use mathlib.Core.Path.{refl, sym, ◌∙◌, ap, subst}
+use borrow.Author.Tests.{eqb-true}
+use Rattle.spots.specs.declared.Kind as Code
+use Rattle.spots.specs.Heads.{kind_for}
+use Rattle.sofar.specs.Sofar.{kind_for_id}
 use Rattle.tokens.specs.Listed.{Tok, tokens_from}
 use Rattle.numbers.specs.declared.sort.Sort.{Sort}
 use Rattle.numbers.specs.Whole.{section_id_of}
@@ -31,6 +35,27 @@ id_only face node e = absurd (omega arith)
 id_only face cell e = absurd (omega arith)
 id_only face face e = refl
 
+abbrev named_by : Bool → Bool → Bool → Option Code.Kind
+named_by a b c = elim a [ true ↦ Some Code.Kind.Node | false ↦ elim b [ true ↦ Some Code.Kind.Cell | false ↦ elim c [ true ↦ Some Code.Kind.Face | false ↦ None ] ] ]
+
+-- the kind that an id names
+pub named_is : (v : ℕ) (o : Option Code.Kind) → o ≡ kind_for_id v → (k : Code.Kind) → o ≡ Some k → v ≡ id_of (kind_for k)
+named_is v o q k e = by (eqb v 10) (eqb v 12) (eqb v 13) refl refl refl (sym e ∙ q)
+  where
+    by : (a b c : Bool) → eqb v 10 ≡ a → eqb v 12 ≡ b → eqb v 13 ≡ c → Some k ≡ named_by a b c → v ≡ id_of (kind_for k)
+    by true b c x y z w = let n : k ≡ Code.Kind.Node = cc in eqb-true v 10 x ∙ ap (λ j. id_of (kind_for j)) (sym n)
+    by false true c x y z w = let n : k ≡ Code.Kind.Cell = cc in eqb-true v 12 y ∙ ap (λ j. id_of (kind_for j)) (sym n)
+    by false false true x y z w = let n : k ≡ Code.Kind.Face = cc in eqb-true v 13 z ∙ ap (λ j. id_of (kind_for j)) (sym n)
+    by false false false x y z w = absurd (cc)
+
+named_not : (v : ℕ) → kind_for_id v ≡ None → (k : Kind) → v ≡ id_of k → ⊥
+named_not v q k e = by k (ap (λ n. kind_for_id n) (sym e) ∙ q)
+  where
+    by : (k : Kind) → kind_for_id (id_of k) ≡ None → ⊥
+    by node w = cc
+    by cell w = cc
+    by face w = cc
+
 module _ (s : List ℕ) (at m v : ℕ) (g : Steps s m (number_by (length s) section_id_of Sort.SectionId (tokens_from s at)) (λ x. v ≡ x.value)) where
   record Named (k : Kind) (h : Header) (b : Body) : Type 0 where
     value : v ≡ id_of k
@@ -50,10 +75,5 @@ module _ (s : List ℕ) (at m v : ℕ) (g : Steps s m (number_by (length s) sect
         of j x = subst (λ y. Passes s m z d y old new Q) x (record { says = λ h b r f. let u = p.says h b r f in (q h b u.0, u.1) })
 
     -- it is that of none
-    pub passes_none : (v ≡ 10 → ⊥) → (v ≡ 12 → ⊥) → (v ≡ 13 → ⊥) → PassesAt s at z d old new Q
-    passes_none a b c = record { says = λ j h x w f. absurd (no_kind j (named w.section).value) }
-      where
-        no_kind : (k : Kind) → v ≡ id_of k → ⊥
-        no_kind node e = a e
-        no_kind cell e = b e
-        no_kind face e = c e
+    pub passes_none : (o : Option Code.Kind) → o ≡ kind_for_id v → o ≡ None → PassesAt s at z d old new Q
+    passes_none o q e = record { says = λ j h x w f. absurd (named_not v (sym q ∙ e) j (named w.section).value) }

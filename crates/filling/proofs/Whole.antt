@@ -1,5 +1,5 @@
 -- All regular sections, one by one: what the loop keeps. Assumes nothing.
-use Rattle.std.specs.Prelude.{◌≡◌, ℕ, suc, ◌+◌, ◌-◌, ◌*◌, ◌<◌, ◌≤◌, Bool, true, false, List, [], ◌∷◌, length, get_or, ℤ}
+use Rattle.std.specs.Prelude.{◌≡◌, ℕ, suc, ◌+◌, ◌*◌, ◌<◌, ◌≤◌, Bool, true, false, List, [], ◌∷◌, length, get_or, ℤ}
 use native.Mathlib.Omega.{arith}
 use mathlib.Core.Path.{refl, sym, ◌∙◌, ap, subst}
 use lib.Seq.{sets}
@@ -9,7 +9,7 @@ use Rattle.layout.specs.Read.{lay}
 use Rattle.tables.specs.Places.{words_of}
 use Rattle.filling.specs.Found.{flat_of}
 use Rattle.survey.specs.Sites.{Stands, AllStand}
-use Rattle.filling.specs.Passing.{AllFit, laid_by, PassesAt, Tabled, laid_from, Has, Fills}
+use Rattle.filling.specs.Passing.{AllFit, laid_by, PassesAt, Tabled, Laid, laid_from, Has, Fills}
 use Rattle.again.proofs.Puts.{sets_behind}
 
 -- ---- one item, then the rest
@@ -49,20 +49,13 @@ record Rest (s places : List ℕ) (n d z : ℕ) (old cur : Tabled) (is : List It
   fits : AllFit d z rest
   same : laid_from rest z cur ≡ laid_from is 0 old
 
-abbrev pub Lengths : Tabled → Tabled → Type 0
-Lengths old cur =
-    (length cur.mantissas ≡ length old.mantissas) × (length cur.exponents ≡ length old.exponents) × (length cur.faces ≡ length old.faces)
-    × (length cur.cells ≡ length old.cells) × (length cur.list ≡ length old.list)
-
 pub record Filling (s places : List ℕ) (n d z : ℕ) (old cur : Tabled) : Type 0 where
-  pub lengths : Lengths old cur
   left : (is : List Item) (ps : List ℕ) → AllStand s is ps → Has places 0 ps → length ps ≡ n → AllFit d 0 is → Rest s places n d z old cur is
 
 module _ (s places : List ℕ) (n d : ℕ) (old : Tabled) where
   pub filling_start : Filling s places n d 0 old old
   filling_start =
       record {
-        lengths = (refl, refl, refl, refl, refl);
         left = λ is ps a h l f. record { rest = is; sites = ps; stand = a; has = h; count = omega (arith, l); fits = f; same = refl };
       }
 
@@ -85,7 +78,7 @@ module _ (s places : List ℕ) (n d : ℕ) (old : Tabled) where
 
     -- one more
     module _ (l : z < n) (at : ℕ) (e : at ≡ get_or places z 0) (new : Tabled)
-        (p : PassesAt s at z d cur.list new.list (λ i. (new.mantissas ≡ laid_by mantissa_table i cur.mantissas) × (new.exponents ≡ laid_by exponent_table i cur.exponents) × (new.faces ≡ laid_by face_table i cur.faces) × (new.cells ≡ laid_by cell_table i cur.cells))) where
+        (p : PassesAt s at z d cur.list new.list (Laid cur new)) where
       plain : (rest : List Item) → AllFit d (z + 0) rest → AllFit d z rest
       plain rest f = let x : z + 0 ≡ z = omega arith in subst (λ y. AllFit d y rest) x f
 
@@ -117,9 +110,8 @@ module _ (s places : List ℕ) (n d : ℕ) (old : Tabled) where
           }
       advance is (other ∷ rest) ps a h c f q = advance is rest ps a h c (plain rest f.1) q
 
-      pub filling_more : Lengths old new → Filling s places n d (z + 1) old new
-      filling_more x =
+      pub filling_more : Filling s places n d (z + 1) old new
+      filling_more =
           record {
-            lengths = x;
             left = λ is ps a h c f. let r = g.left is ps a h c f in advance is r.rest r.sites r.stand r.has r.count r.fits r.same;
           }

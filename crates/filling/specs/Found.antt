@@ -1,9 +1,9 @@
 -- Reading with the zone records as numbers: what the covered call answers and leaves in the tables. Assumes nothing.
+use Rattle.layout.specs.Replies.{accepts, refuses}
 use Rattle.std.specs.Prelude.{ℕ, ◌/◌, min, List, [], ◌∷◌, ◌++◌, length, replicate, ℤ}
 use Rattle.std.proofs.lemmas.List.Edits.{sets}
 use Rattle.mesh.specs.declared.Zone.{Zone}
 use Rattle.mesh.specs.Rows.{places, face_words, cell_words, node_words}
-use Rattle.layout.specs.declared.Reply.{Reply}
 use Rattle.layout.specs.Replies.{Shown, shown}
 use Rattle.layout.specs.Keeps.{most, Room}
 use Rattle.layout.specs.Rows.{pieces_of, mantissa_table, exponent_table, face_table, cell_table, zones_of}
@@ -54,7 +54,7 @@ abbrev pub core_by : Answer → Tables → Core
 core_by (accepted x is) t =
     record {
       found = record {
-        reply = Reply.Accepted x.dimension x.nodes.total x.faces.total x.cells.total x.zones;
+        reply = accepts x.dimension x.nodes.total x.faces.total x.cells.total x.zones;
         zones = x.zones;
         flat = sets blank 0 (flat_of (zones_of is));
       };
@@ -65,7 +65,7 @@ core_by (accepted x is) t =
         cells = lay (pieces_of cell_table is) t.cells;
       };
     }
-core_by (refused w k o) t = record { found = record { reply = Reply.Refused w k o; zones = 0; flat = blank }; held = t }
+core_by (refused w k o) t = record { found = record { reply = refuses w k o; zones = 0; flat = blank }; held = t }
 
 -- n zone records may be kept
 unfoldable pub core_of : List ℕ → ℕ → Tables → Core

@@ -9,20 +9,14 @@ use Rattle.layout.specs.Items.{Kind, Header, count_of, Body, Wide, Item, dim, de
 use Rattle.layout.specs.Grammar.{Heading, BodyOf}
 use Rattle.layout.specs.Keeps.{FifthOf, parts_in}
 use Rattle.layout.specs.Rows.{Table, joined, pieces_of, zones_of, zone_of, mantissa_table, exponent_table, face_table, cell_table}
-use Rattle.layout.specs.Sections.{header_of, body_of}
+use Rattle.layout.specs.Sections.{body_of}
 use Rattle.layout.specs.Read.{lay}
-use Rattle.spots.specs.declared.Kind as Code
-use Rattle.spots.specs.declared.Head.{Head}
-use Rattle.spots.specs.Heads.{kind_for, head_for}
 use Rattle.survey.specs.Sites.{Stands, AllStand}
 use Rattle.rows.specs.declared.row.Form.{Form}
-use Rattle.filling.specs.declared.tops.Top.{Top}
 use Rattle.tables.specs.Places.{words_of}
+use Rattle.filling.specs.declared.parts.Lent.{Lent}
 use Rattle.filling.specs.Found.{flat_of}
 use Rattle.again.specs.Again.{Then}
-
-abbrev pub top_of : Code.Kind → Head → ℕ → Top
-top_of k h n = record { zone = zone_of (kind_for k) (header_of (head_for h)); next = n }
 
 -- a face section's element as the form of its rows
 abbrev pub face_form : ℕ → Form
@@ -85,6 +79,22 @@ pub record Tabled : Type 0 where
   pub faces : List ℕ
   pub cells : List ℕ
   pub list : List ℕ
+
+-- what the lent slices hold
+abbrev pub tabled : Lent → Tabled
+tabled l = record { mantissas = l.mantissas.now; exponents = l.exponents.now; faces = l.faces.now; cells = l.cells.now; list = l.list.now }
+
+-- the same slices are still lent
+abbrev pub Kept : Lent → Lent → Type 0
+Kept x y =
+    (y.mantissas.ghost_name ≡ x.mantissas.ghost_name) × (y.exponents.ghost_name ≡ x.exponents.ghost_name) × (y.faces.ghost_name ≡ x.faces.ghost_name)
+    × (y.cells.ghost_name ≡ x.cells.ghost_name) × (y.list.ghost_name ≡ x.list.ghost_name)
+
+-- from `old` to `new`: an item's rows are in the tables
+abbrev pub Laid : Tabled → Tabled → Item → Type 0
+Laid old new i =
+    (new.mantissas ≡ laid_by mantissa_table i old.mantissas) × (new.exponents ≡ laid_by exponent_table i old.exponents)
+    × (new.faces ≡ laid_by face_table i old.faces) × (new.cells ≡ laid_by cell_table i old.cells)
 
 -- the tables with these items in them, z records being in the list
 abbrev pub laid_from : List Item → ℕ → Tabled → Tabled

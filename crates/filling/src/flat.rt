@@ -4,14 +4,15 @@ ghost use Rattle.layout.specs.Replies.{shown};
 ghost use Rattle.filling.specs.Found.{Tables, Told, told, core_of};
 
 use super::fill::fill_tables;
-use layout::Reply;
+use super::parts::Lent;
+use layout::{Accepted, Refused};
 use points::coordinates_in;
 use tables::room_for;
 
 // The answer, the number of zone records, and the records: section id, zone, first, last, type, element of each, one behind the other.
 #[derive(Clone, Copy)]
 pub struct Found {
-    pub reply: Reply,
+    pub reply: Result<Accepted, Refused>,
     pub zones: usize,
     pub flat: [u32; 384],
 }
@@ -39,25 +40,22 @@ pub fn read_flat(
     let at = located.places;
     let mut flat: [u32; 384] = [0; 384];
     match reply {
-        Reply::Refused {
-            why: _,
-            section: _,
-            offset: _,
-        } => Found {
+        Err(_) => Found {
             reply,
             zones: 0,
             flat,
         },
-        Reply::Accepted {
-            dim,
-            nodes: _,
-            faces: _,
-            cells: _,
-            zones,
-        } => {
-            let d = coordinates_in(dim);
-            let n = zones as usize;
-            fill_tables(s, &at, n, d, mantissas, exponents, faces, cells, &mut flat);
+        Ok(accepted) => {
+            let d = coordinates_in(accepted.dim);
+            let n = accepted.zones as usize;
+            let mut lent = Lent {
+                mantissas,
+                exponents,
+                faces,
+                cells,
+                list: &mut flat,
+            };
+            fill_tables(s, &at, n, d, &mut lent);
             Found {
                 reply,
                 zones: n,

@@ -4,7 +4,7 @@ ghost use Rattle.mesh.specs.Rows.{node_words, places};
 ghost use Rattle.sizes.specs.Sizes.{zones};
 ghost use Rattle.layout.specs.Items.{node, cell, face};
 ghost use Rattle.layout.specs.Rows.{mantissa_table, exponent_table, face_table, cell_table};
-ghost use Rattle.filling.specs.Passing.{face_form, Bodied, Passes, PassesAny, PassesAt, laid_by};
+ghost use Rattle.filling.specs.Passing.{face_form, Bodied, Passes, PassesAny, PassesAt, laid_by, tabled, Kept, Laid};
 
 use super::tops::top_at;
 use super::words::{past_left, value_at};
@@ -12,9 +12,19 @@ use mesh::Zone;
 use numbers::Sort;
 use points::put_points;
 use rows::{Form, put_rows, put_same};
-use sofar::count_of;
+use sofar::{count_of, kind_of};
 use spots::Kind;
 use tables::{put_record, rows_before};
+
+// The tables and the list of records, lent to the steps that fill them.
+#[derive(Drop)]
+pub(crate) struct Lent<'a> {
+    pub mantissas: &'a mut [i64],
+    pub exponents: &'a mut [i32],
+    pub faces: &'a mut [u32],
+    pub cells: &'a mut [u32],
+    pub list: &'a mut [u32],
+}
 
 // From behind its id; z records come before its own.
 fn nodes_into(
@@ -30,7 +40,7 @@ fn nodes_into(
     ensures { Passes s.now at z d node list.old list.new (λ i. (mantissas.new ≡ laid_by mantissa_table i mantissas.old) × (exponents.new ≡ laid_by exponent_table i exponents.old)) }
 {
     let top = top_at(s, at, Kind::Node);
-    let zone = top.zone;
+    let zone = top.value;
     let body = top.next;
     put_record(list, z, zone);
     let before = rows_before(zone.first);
@@ -59,7 +69,7 @@ fn cells_into(s: &[u8], at: usize, z: usize, cells: &mut [u32], list: &mut [u32]
     ensures { PassesAny s.now at z cell list.old list.new (λ i. cells.new ≡ laid_by cell_table i cells.old) }
 {
     let top = top_at(s, at, Kind::Cell);
-    let zone = top.zone;
+    let zone = top.value;
     let body = top.next;
     put_record(list, z, zone);
     let before = rows_before(zone.first);
@@ -100,7 +110,7 @@ fn faces_into(s: &[u8], at: usize, z: usize, faces: &mut [u32], list: &mut [u32]
     ensures { PassesAny s.now at z face list.old list.new (λ i. faces.new ≡ laid_by face_table i faces.old) }
 {
     let top = top_at(s, at, Kind::Face);
-    let zone = top.zone;
+    let zone = top.value;
     let body = top.next;
     put_record(list, z, zone);
     let before = rows_before(zone.first);
@@ -110,33 +120,20 @@ fn faces_into(s: &[u8], at: usize, z: usize, faces: &mut [u32], list: &mut [u32]
 }
 
 // From behind its `(`.
-pub(crate) fn section_into(
-    s: &[u8],
-    at: usize,
-    d: u32,
-    z: usize,
-    mantissas: &mut [i64],
-    exponents: &mut [i32],
-    faces: &mut [u32],
-    cells: &mut [u32],
-    list: &mut [u32],
-)
+pub(crate) fn section_into(s: &[u8], at: usize, d: u32, z: usize, lent: &mut Lent<'_>)
     requires { (d ≤ node_words) × (z ≤ zones) }
-    ensures { PassesAt s.now at z d list.old list.new (λ i. (mantissas.new ≡ laid_by mantissa_table i mantissas.old) × (exponents.new ≡ laid_by exponent_table i exponents.old) × (faces.new ≡ laid_by face_table i faces.old) × (cells.new ≡ laid_by cell_table i cells.old)) }
+    ensures rows { PassesAt s.now at z d (tabled lent.old).list (tabled lent.new).list (Laid (tabled lent.old) (tabled lent.new)) }
+    ensures same_references { Kept lent.old lent.new }
 {
     let id = value_at(s, at, Sort::SectionId);
-    let v = id.value;
     let behind = id.next;
-    let is_nodes = v == 10;
-    if is_nodes {
-        nodes_into(s, behind, d, z, mantissas, exponents, list);
+    let named = kind_of(id.value);
+    let Some(kind) = named else {
         return;
-    }
-    if v == 12 {
-        cells_into(s, behind, z, cells, list);
-        return;
-    }
-    if v == 13 {
-        faces_into(s, behind, z, faces, list);
+    };
+    match kind {
+        Kind::Node => nodes_into(s, behind, d, z, lent.mantissas, lent.exponents, lent.list),
+        Kind::Cell => cells_into(s, behind, z, lent.cells, lent.list),
+        Kind::Face => faces_into(s, behind, z, lent.faces, lent.list),
     }
 }

@@ -5,37 +5,27 @@ ghost use Rattle.steps.specs.Views.{whole_for};
 ghost use Rattle.layout.specs.Reading.{left_of, number_by};
 ghost use Rattle.again.specs.Again.{Steps};
 
+use facts::Taken;
 use numbers::Sort;
-use spots::Past;
-use steps::Num;
 
-// A number and the place behind it.
-#[derive(Clone, Copy)]
-pub struct Value {
-    pub value: u32,
-    pub next: usize,
-}
-
-pub(crate) fn value_at(s: &[u8], at: usize, sort: Sort) -> Value
+// A number.
+pub(crate) fn value_at(s: &[u8], at: usize, sort: Sort) -> Taken<u32>
     ensures { Steps s.now result.next (number_by (length s.now) (whole_for sort) sort (tokens_from s.now at)) (λ v. result.value ≡ v.value) }
 {
-    let n = steps::number_at(s, at, sort);
-    match n {
-        Num::No(_) => Value { value: 0, next: at },
-        Num::Is {
-            value,
-            start: _,
-            next,
-        } => Value { value, next },
+    match steps::number_at(s, at, sort) {
+        Ok(read) => Taken {
+            value: read.value.value,
+            next: read.next,
+        },
+        Err(_) => Taken { value: 0, next: at },
     }
 }
 
 pub(crate) fn past_left(s: &[u8], at: usize) -> usize
     ensures { Steps s.now result (left_of (length s.now) (tokens_from s.now at)) (λ u. Unit) }
 {
-    let p = steps::left_at(s, at);
-    match p {
-        Past::No(_) => at,
-        Past::To(next) => next,
+    match steps::left_at(s, at) {
+        Ok(next) => next,
+        Err(_) => at,
     }
 }

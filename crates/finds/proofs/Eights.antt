@@ -1,26 +1,19 @@
 -- The first byte that does not go on with what is passed, looked for in eight bytes at once. Assumes nothing.
 use Prim.Native.Nat.{ℕ, zero, suc, ◌+◌, ◌-◌, ◌*◌, ◌/◌, ◌^◌, ◌≤◌, ◌<◌}
 use native.Mathlib.Omega.{arith}
-use mathlib.Core.Path.{◌≡◌, refl, sym, ap, ap₂, ◌∙◌}
+use mathlib.Core.Path.{◌≡◌, refl, sym, ap, ap₂, subst, ◌∙◌}
 use mathlib.Core.List.{List, [], ◌∷◌, ◌++◌, map}
 use mathlib.Core.Bool.{Bool, true, false}
 use lib.ListN.{length, replicate, take, drop, length-drop, length-take, take-append-drop}
 use lib.Count.{count_trailing_zeros}
 use Rattle.facts.proofs.Branch.{split}
 use Rattle.facts.proofs.First.{first_inside, first_is, first_behind}
-use Rattle.tokens.proofs.Passing.{Passes}
-use Rattle.digits.specs.Lanes.{lanes, Under, Laned}
+use Rattle.digits.specs.declared.group.Base.{Base}
+use Rattle.finds.specs.Eights.{off, Shows}
+use Rattle.finds.proofs.Passing.{Passes}
+use Rattle.digits.specs.Lanes.{lanes, Laned}
 use Rattle.digits.proofs.Laning.{padded, padded_eight, padded_under, padded_same}
 use Rattle.digits.proofs.Gathered.{passed, stopped}
-
--- a lane's highest bit, set where a byte does not go on
-abbrev pub off : Bool → ℕ
-off p = elim p [ true ↦ 0 | false ↦ 128 ]
-
--- f sets it in eight lanes at once; a lane with no byte in it has none
-pub record Shows (goes : ℕ → Bool) (f : ℕ → ℕ) : Type 0 where
-  pub lanewise : (w : List ℕ) → length w ≡ 8 → Under 256 w → f (lanes 8 w) ≡ lanes 8 (map (λ b. off (goes b)) w)
-  pub nought : goes 0 ≡ true
 
 abbrev chosen : Bool → ℕ → ℕ → ℕ
 chosen q a b = elim q [ true ↦ a | false ↦ b ]
@@ -36,8 +29,8 @@ module _ (goes : ℕ → Bool) where
 
   first_step : (w : List ℕ) → count_trailing_zeros (8 * length w) (shown w) / 8 ≡ first w → (q : Bool)
       → count_trailing_zeros (8 * suc (length w)) (shown w * 2 ^ 8 + off q) / 8 ≡ chosen q (suc (first w)) 0
-  first_step w ih true = ap (λ (z : ℕ). z / 8) (passed true w (shown w)) ∙ omega (arith, ih)
-  first_step w ih false = ap (λ (z : ℕ). z / 8) (stopped true w (shown w)) ∙ omega arith
+  first_step w ih true = ap (λ (z : ℕ). z / 8) (passed Base.Sixteen w (shown w)) ∙ omega (arith, ih)
+  first_step w ih false = ap (λ (z : ℕ). z / 8) (stopped Base.Sixteen w (shown w)) ∙ omega arith
 
   zeros_first : (w : List ℕ) → count_trailing_zeros (8 * length w) (shown w) / 8 ≡ first w
   unfolding lanes count_trailing_zeros
@@ -82,7 +75,7 @@ module _ (goes : ℕ → Bool) where
     found_there [] rest i d o = absurd (omega (arith, o))
     found_there (b ∷ w) rest i d o = found_step w rest i b d (found_there w rest (i + 1) (first_behind s i b (w ++ rest) d)) (goes b) refl o
 
-  module _ (f : ℕ → ℕ) (show : Shows goes f) where
+  module _ (answers : ℕ → ℕ → Type 0) (show : Shows goes answers) where
     -- ---- fewer than eight bytes are followed by zeros
     zeros_shown : (m : ℕ) → shown (replicate m 0) ≡ 0
     unfolding lanes
@@ -94,9 +87,9 @@ module _ (goes : ℕ → Bool) where
     padded_shown [] m = zeros_shown m
     padded_shown (b ∷ w) m = ap (λ (k : ℕ). k * 2 ^ 8 + off (goes b)) (padded_shown w m)
 
-    module _ (x : ℕ) (w : List ℕ) (l : Laned w x) (h : length w ≤ 8) (here : ℕ) (e : here ≡ f x) where
+    module _ (x : ℕ) (w : List ℕ) (l : Laned w x) (h : length w ≤ 8) (here : ℕ) (e : answers x here) where
       padded_is : here ≡ shown (padded w)
-      padded_is = e ∙ ap f (padded_same x w l) ∙ show.lanewise (padded w) (padded_eight w h) (padded_under x w l)
+      padded_is = show.lanewise (padded w) here (padded_eight w h) (padded_under x w l) (subst (λ (y : ℕ). answers y here) (padded_same x w l) e)
 
       shown_is : here ≡ shown w
       unfolding padded
@@ -109,7 +102,7 @@ module _ (goes : ℕ → Bool) where
           ap₂ (λ (k z : ℕ). count_trailing_zeros k z / 8) (sym n) padded_is ∙ zeros_first (padded w) ∙ first_on w (replicate (8 - length w) 0) y
 
 -- ---- a loop's steps
-module _ {goes : ℕ → Bool} {to : List ℕ → ℕ → ℕ} {f : ℕ → ℕ} (pass : Passes goes to) (show : Shows goes f) (s : List ℕ) (i x here : ℕ) (l : Laned (take 8 (drop i s)) x) (e : here ≡ f x) (o : i < length s) where
+module _ {goes : ℕ → Bool} {to : List ℕ → ℕ → ℕ} {answers : ℕ → ℕ → Type 0} (pass : Passes goes to) (show : Shows goes answers) (s : List ℕ) (i x here : ℕ) (l : Laned (take 8 (drop i s)) x) (e : answers x here) (o : i < length s) where
   abbrev block : List ℕ
   block = take 8 (drop i s)
 
@@ -120,7 +113,7 @@ module _ {goes : ℕ → Bool} {to : List ℕ → ℕ → ℕ} {f : ℕ → ℕ}
   size = omega (arith, length-take 8 (drop i s))
 
   here_is : here ≡ shown goes block
-  here_is = shown_is goes f show x block l size here e
+  here_is = shown_is goes answers show x block l size here e
 
   none_here : here ≡ 0 → to s (i + length block) ≡ to s i
   none_here z = none_there goes to pass s block (drop 8 (drop i s)) i parts (sym here_is ∙ z)
@@ -130,7 +123,7 @@ module _ {goes : ℕ → Bool} {to : List ℕ → ℕ → ℕ} {f : ℕ → ℕ}
       let n : length block ≡ 8 = omega (arith, length-take 8 (drop i s), length-drop i s) in
       ap (λ (k : ℕ). to s (i + k)) (sym n) ∙ none_here z
 
-  pub pass_nowhere : here ≡ 0 → length s < i + 8 → length s ≡ to s i
+  pub pass_nowhere : here ≡ 0 → length s ≤ i + 8 → length s ≡ to s i
   pass_nowhere z h =
       let n : i + length block ≡ length s = omega (arith, length-take 8 (drop i s), length-drop i s) in
       pass.out s (length s) (omega arith) ∙ ap (to s) (sym n) ∙ none_here z
@@ -141,5 +134,5 @@ module _ {goes : ℕ → Bool} {to : List ℕ → ℕ → ℕ} {f : ℕ → ℕ}
   pub pass_here : (here ≡ 0 → ⊥) → (i + count_trailing_zeros 64 here / 8 ≡ to s i) × (i + count_trailing_zeros 64 here / 8 ≤ length s)
   pass_here z =
       let y = there z in
-      let q = step_is goes f show x block l size here e y.0 in
+      let q = step_is goes answers show x block l size here e y.0 in
       (ap (λ (k : ℕ). i + k) q ∙ y.1, omega (arith, q, y.0, length-take 8 (drop i s), length-drop i s))

@@ -1,3 +1,4 @@
+mod Passing
 mod Eights
 mod Shown
 pub mod Only

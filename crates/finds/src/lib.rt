@@ -3,6 +3,7 @@
 
 mod marks;
 mod quotes;
+mod runs;
 
 pub use marks::mark_from;
 pub use quotes::quote_from;

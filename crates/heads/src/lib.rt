@@ -3,4 +3,4 @@
 
 mod head;
 
-pub use head::{Header, head_at};
+pub use head::head_at;

@@ -1,29 +1,28 @@
 -- One or two decimal digits, behind which the word ends: they are the section's id there. Assumes nothing.
+use Rattle.std.specs.Prelude.{Some, None, is_some}
 use Prim.Native.Nat.{ℕ, ◌+◌, ◌-◌, ◌*◌, ◌≤◌, ◌<◌}
 use native.Mathlib.Omega.{arith}
 use native.Mathlib.Numerals.{add-one}
 use mathlib.Core.Path.{◌≡◌, refl, sym, ap, subst, ◌∙◌}
 use mathlib.Core.List.{List, [], ◌∷◌}
-use mathlib.Core.Bool.{true}
+use mathlib.Core.Bool.{true, false}
 use borrow.Author.Tests.{le-leb, lt-leb, ltb-true, ltb-false}
 use lib.Dec.{ltb}
 use lib.ListN.{length, take, drop, get_or, get_or-eq_default}
 use lib.Seq.{drop-cons}
-use Rattle.facts.proofs.Branch.{split}
+use Rattle.facts.proofs.Branch.{split, differ}
 use Rattle.tokens.specs.declared.Token.{Token}
 use Rattle.tokens.specs.Tokens.{start_of, ends_word, step_of, token_at}
 use Rattle.tokens.specs.Listed.{tokens_from}
 use Rattle.tokens.proofs.Runner.{word_found}
 use Rattle.tokens.proofs.Blanked.{start_here}
 use Rattle.numbers.specs.declared.sort.Sort.{Sort}
-use Rattle.numbers.specs.declared.whole.Whole.{Whole}
 use Rattle.digits.specs.Digits.{within, digit_of, Figures, worth}
 use Rattle.numbers.specs.Whole.{section_id_of}
 use Rattle.digits.proofs.Digits.{within_is}
 use Rattle.numbers.proofs.Wholes.{whole_of_exact}
 use Rattle.layout.specs.Reading.{number_by}
-use Rattle.steps.specs.declared.step.Num.{Num}
-use Rattle.steps.specs.Views.{NumAt, whole_for}
+use Rattle.steps.specs.Views.{NumAt, num_read, whole_for}
 use Rattle.ids.specs.Ids.{figure_at}
 use Rattle.steps.proofs.Taken.{number_is}
 
@@ -32,22 +31,22 @@ module _ (s : List ℕ) (i : ℕ) where
   abbrev byte : ℕ
   byte = get_or s i 0
 
-  pub figure_low : byte < 48 → 10 ≡ figure_at s i
+  pub figure_low : byte < 48 → None ≡ figure_at s i
   unfolding figure_at
   figure_low h = rw (lt-leb 48 byte h, figure_at)
 
   outside : length s ≤ i → byte < 48
   outside h = omega (arith, get_or-eq_default s 0 h)
 
-  pub figure_out : length s ≤ i → 10 ≡ figure_at s i
+  pub figure_out : length s ≤ i → None ≡ figure_at s i
   figure_out h = figure_low (outside h)
 
   module _ (l : 48 ≤ byte) where
-    pub figure_high : 57 < byte → 10 ≡ figure_at s i
+    pub figure_high : 57 < byte → None ≡ figure_at s i
     unfolding figure_at
     figure_high h = rw (le-leb 48 byte l, lt-leb byte 57 h, figure_at)
 
-    pub figure_is : byte ≤ 57 → byte - 48 ≡ figure_at s i
+    pub figure_is : byte ≤ 57 → Some (byte - 48) ≡ figure_at s i
     unfolding figure_at
     figure_is h = rw (le-leb 48 byte l, le-leb byte 57 h, figure_at)
 
@@ -58,24 +57,27 @@ module _ (s : List ℕ) (i : ℕ) where
     pub small : d < 10
     pub worth : digit_of byte ≡ d
 
-  pub figured : (d : ℕ) → d ≡ figure_at s i → d < 10 → Figure d
+  pub figured : (d : ℕ) → figure_at s i ≡ Some d → Figure d
   unfolding figure_at digit_of
-  figured d f h =
+  figured d f =
       split (within 48 57 byte)
-      (λ p. let v : d ≡ byte - 48 = f ∙ rw (p, figure_at) in
-      let low = (within_is 48 57 byte p).0 in
+      (λ p. let v : byte - 48 ≡ d = some_is (rw (p, figure_at) at f) in
+      let low = within_is 48 57 byte p in
       record {
-        inside = split (ltb i (length s)) (λ q. ltb-true i (length s) q) (λ q. absurd (omega (arith, low, outside (ltb-false i (length s) q))));
-        high = omega (arith, low);
-        small = h;
-        worth = rw (p, digit_of) (sym v);
+        inside = split (ltb i (length s)) (λ q. ltb-true i (length s) q) (λ q. absurd (omega (arith, low.0, outside (ltb-false i (length s) q))));
+        high = omega (arith, low.0);
+        small = omega (arith, v, low.1);
+        worth = rw (p, digit_of) v;
       })
-      (λ p. absurd (let v : d ≡ 10 = f ∙ rw (p, figure_at) in omega (arith, h, v)))
+      (λ p. differ false (ap is_some (rw (p, figure_at) at f)) refl)
+    where
+      some_is : {a b : ℕ} → Some a ≡ Some b → a ≡ b
+      some_is e = cc
 
 -- ---- the word
 module _ (s : List ℕ) (at : ℕ) where
   abbrev Id : ℕ → ℕ → Type 0
-  Id v n = NumAt s at (Num.Is v at n) (number_by (length s) (whole_for Sort.SectionId) Sort.SectionId (tokens_from s at))
+  Id v n = NumAt s at (num_read v at n) (number_by (length s) (whole_for Sort.SectionId) Sort.SectionId (tokens_from s at))
 
   -- bytes above `)`, the first of them here
   token : (n : ℕ) → 1 ≤ n → at + n ≤ length s → ((j : ℕ) → j < n → 42 ≤ get_or s (at + j) 0) → ends_word s (at + n) ≡ true → step_of Token.Word at (at + n) ≡ token_at s at
@@ -90,11 +92,14 @@ module _ (s : List ℕ) (at : ℕ) where
   id_is n w t b f low high v e =
       let z : at + n - at ≡ n = omega arith in
       let here : take (at + n - at) (drop at s) ≡ w = ap (λ k. take k (drop at s)) z ∙ b in
-      number_is s at (step_of Token.Word at (at + n)) t Sort.SectionId refl (Whole.Is v) (sym (ap section_id_of here ∙ whole_of_exact 10 5 w f low high ∙ ap Whole.Is e)) v refl
+      number_is s at (step_of Token.Word at (at + n)) t Sort.SectionId refl (Some v) (sym (ap section_id_of here ∙ whole_of_exact 10 5 w f low high ∙ ap Some e)) v refl
 
-  module _ (d : ℕ) (f : d ≡ figure_at s at) (h : d < 10) where
+  module _ (d : ℕ) (f : figure_at s at ≡ Some d) where
     first : Figure s at d
-    first = figured s at d f h
+    first = figured s at d f
+
+    pub one_small : d < 10
+    one_small = first.small
 
     pub one_inside : at + 1 ≤ length s
     one_inside = omega (arith, first.inside)
@@ -106,11 +111,14 @@ module _ (s : List ℕ) (at : ℕ) where
         id_is 1 (get_or s at 0 ∷ [])
         (token 1 (omega arith) one_inside (λ j l. let z : at ≡ at + j = omega (arith, l) in subst (λ k. 42 ≤ get_or s k 0) z a.high) ends)
         (ap (take 1) (drop-cons s at 0 a.inside))
-        (omega (arith, a.worth, h), tt) (omega arith) (omega arith) d v
+        (omega (arith, a.worth, a.small), tt) (omega arith) (omega arith) d v
 
-    module _ (e : ℕ) (g : e ≡ figure_at s (at + 1)) (k : e < 10) where
+    module _ (e : ℕ) (g : figure_at s (at + 1) ≡ Some e) where
       second : Figure s (at + 1) e
-      second = figured s (at + 1) e g k
+      second = figured s (at + 1) e g
+
+      pub two_small : e < 10
+      two_small = second.small
 
       pub two_inside : at + 2 ≤ length s
       two_inside = omega (arith, second.inside)
@@ -133,4 +141,4 @@ module _ (s : List ℕ) (at : ℕ) where
           let b = second in
           let v : (0 * 10 + digit_of (get_or s at 0)) * 10 + digit_of (get_or s (at + 1) 0) ≡ 10 * d + e = omega (arith, a.worth, b.worth) in
           id_is 2 (get_or s at 0 ∷ get_or s (at + 1) 0 ∷ []) (token 2 (omega arith) two_inside high ends) bytes
-          (omega (arith, a.worth, h), (omega (arith, b.worth, k), tt)) (omega arith) (omega arith) (10 * d + e) v
+          (omega (arith, a.worth, a.small), (omega (arith, b.worth, b.small), tt)) (omega arith) (omega arith) (10 * d + e) v

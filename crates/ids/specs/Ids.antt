@@ -1,7 +1,7 @@
 -- A decimal digit at a place of the file. Assumes nothing.
-use Rattle.std.specs.Prelude.{ℕ, ◌-◌, List, true, false, get_or}
+use Rattle.std.specs.Prelude.{ℕ, ◌-◌, List, true, false, get_or, Option, Some, None}
 use Rattle.digits.specs.Digits.{within}
 
--- its value, and 10 where none stands
-unfoldable pub figure_at : List ℕ → ℕ → ℕ
-figure_at s i = elim (within 48 57 (get_or s i 0)) [ true ↦ get_or s i 0 - 48 | false ↦ 10 ]
+-- its value
+unfoldable pub figure_at : List ℕ → ℕ → Option ℕ
+figure_at s i = elim (within 48 57 (get_or s i 0)) [ true ↦ Some (get_or s i 0 - 48) | false ↦ None ]

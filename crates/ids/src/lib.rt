@@ -1,66 +1,61 @@
 // The id of a section: mostly one or two digits, right where it is looked for. Whatever else stands there is left to the step that takes the token apart.
 #![tactic(auto)]
 
-ghost use Rattle.std.specs.Prelude.{◌≡◌, length};
+ghost use Rattle.std.specs.Prelude.{◌≡◌, length, IfSome, Ok};
 ghost use Rattle.tokens.specs.Listed.{tokens_from};
 ghost use Rattle.layout.specs.Reading.{number_by};
 ghost use Rattle.steps.specs.Views.{NumAt, whole_for};
 ghost use Rattle.ids.specs.Ids.{figure_at};
 
+use facts::Taken;
 use numbers::Sort;
-use steps::{Num, number_at};
+use spots::{Bad, Read};
+use steps::number_at;
 use tokens::Cursor;
 
-// What stands for no digit.
-const NO_FIGURE: u32 = 10;
-
 // The decimal digit at a place.
-fn figure_at(s: &[u8], at: usize) -> u32
+fn figure_at(s: &[u8], at: usize) -> Option<u32>
     ensures { result ≡ figure_at s.now at }
 {
     if s.len() <= at {
-        return NO_FIGURE;
+        return None;
     }
     let b = s[at];
-    if b < 48 {
-        return NO_FIGURE;
+    if b < b'0' {
+        return None;
     }
-    if 57 < b {
-        return NO_FIGURE;
+    if b'9' < b {
+        return None;
     }
-    let figure = b - 48;
-    figure as u32
+    Some(u32::from(b - b'0'))
+}
+
+// An id of one or two digits at this very place.
+fn short_id(s: &[u8], at: usize) -> Option<Taken<Read>>
+    ensures { IfSome result (λ t. NumAt s.now at (Ok t) (number_by (length s.now) (whole_for Sort.SectionId) Sort.SectionId (tokens_from s.now at))) }
+{
+    let first = figure_at(s, at)?;
+    let one = at + 1;
+    if (Cursor { at: one }).ends_word(s) {
+        let value = Read { value: first, at };
+        return Some(Taken { value, next: one });
+    }
+    let second = figure_at(s, one)?;
+    let two = at + 2;
+    if (Cursor { at: two }).ends_word(s) {
+        let id = 10 * first + second;
+        let value = Read { value: id, at };
+        return Some(Taken { value, next: two });
+    }
+    None
 }
 
 // The id of a section, read as `number_at` reads it.
-pub fn id_at(s: &[u8], at: usize) -> Num
+pub fn id_at(s: &[u8], at: usize) -> Result<Taken<Read>, Bad>
     ensures { NumAt s.now at result (number_by (length s.now) (whole_for Sort.SectionId) Sort.SectionId (tokens_from s.now at)) }
 {
-    let d = figure_at(s, at);
-    if d < NO_FIGURE {
-        let one = at + 1;
-        let short = (Cursor { at: one }).ends_word(s);
-        if short {
-            return Num::Is {
-                value: d,
-                start: at,
-                next: one,
-            };
-        }
-        let e = figure_at(s, one);
-        if e < NO_FIGURE {
-            let two = at + 2;
-            let ends = (Cursor { at: two }).ends_word(s);
-            if ends {
-                let tens = 10 * d;
-                let value = tens + e;
-                return Num::Is {
-                    value,
-                    start: at,
-                    next: two,
-                };
-            }
-        }
+    if let Some(id) = short_id(s, at) {
+        return Ok(id);
     }
     number_at(s, at, Sort::SectionId)
 }

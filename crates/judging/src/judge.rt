@@ -1,91 +1,78 @@
-// A header judged by what came before it, in the order of the refusals' numbers: each function is built from the last test to the first.
-ghost use Rattle.std.specs.Prelude.{◌≡◌};
+// A header judged by what came before it, in the order of the refusals' numbers.
+ghost use Rattle.std.specs.Prelude.{◌≡◌, Ok};
 ghost use Rattle.judging.specs.Judging.{test, decl_judged, words_judged, part_judged};
 
 use dims::{dim_after, dim_agrees, dim_known, dim_listed, dim_word};
 use layout::Refusal;
 use listing::{fifth_listed, type_listed};
-use ranges::{Limit, decl_range, fits_in, part_range, zone_fits};
-use sofar::Seen;
+use ranges::{decl_range, fits_in, part_range, zone_fits};
+use sofar::State;
 use spots::{Bad, Head, Kind};
 
-#[derive(Clone, Copy)]
-pub enum Judged {
-    Fine,
-    No(Bad),
+pub fn ensure(ok: bool, why: Refusal, offset: usize) -> Result<(), Bad>
+    ensures { result ≡ test ok why offset (Ok tt) }
+{
+    if ok { Ok(()) } else { Err(Bad { why, offset }) }
 }
 
-pub fn unless(ok: bool, why: Refusal, offset: usize, rest: Judged) -> Judged
-    ensures { result ≡ test ok why offset rest }
+// Undeclared, Range, TableRoom, Type, Dimension. The limit is on rows.
+pub fn decl_judged(kind: Kind, x: State, limit: Option<usize>, h: Head) -> Result<(), Bad>
+    ensures { result ≡ decl_judged kind x limit h }
 {
-    if ok {
-        rest
-    } else {
-        Judged::No(Bad { why, offset })
-    }
-}
-
-// Undeclared, Range, TableRoom, Type, Dimension.
-pub fn decl_judged(kind: Kind, seen: Seen, dim: u32, limit: Limit, h: Head) -> Judged
-    ensures { result ≡ decl_judged kind seen dim limit h }
-{
-    let first = h.first;
     let last = h.last.value;
-    let place = h.place;
-    let fifth = h.fifth;
-    let word = dim_word(kind, fifth);
-    let agrees = dim_agrees(dim, word);
-    let dimension = unless(agrees, Refusal::Dimension, place, Judged::Fine);
-    let listed = dim_listed(word);
-    let element = unless(listed, Refusal::Type, place, dimension);
-    let rows = last as usize;
-    let fits = fits_in(limit, rows);
-    let room = unless(fits, Refusal::TableRoom, first.at, element);
-    let ranged = decl_range(first.value, last);
-    let range = unless(ranged, Refusal::Range, first.at, room);
-    let fresh = !seen.declared;
-    unless(fresh, Refusal::Undeclared, h.zone.at, range)
+    let word = dim_word(kind, h.word());
+    ensure(x.seen(kind).is_none(), Refusal::Undeclared, h.zone.at)?;
+    ensure(decl_range(h.first.value, last), Refusal::Range, h.first.at)?;
+    ensure(
+        fits_in(limit, last as usize),
+        Refusal::TableRoom,
+        h.first.at,
+    )?;
+    ensure(dim_listed(word), Refusal::Type, h.place())?;
+    ensure(dim_agrees(x.dim, word), Refusal::Dimension, h.place())
 }
 
 // Type, Type, Dimension, Dimension, ZoneRoom.
-fn words_judged(kind: Kind, dim: u32, zones: usize, limit: Limit, h: Head) -> Judged
-    ensures { result ≡ words_judged kind dim zones limit h }
+fn words_judged(kind: Kind, x: State, limit: Option<usize>, h: Head) -> Result<(), Bad>
+    ensures { result ≡ words_judged kind x limit h }
 {
-    let place = h.place;
-    let fifth = h.fifth;
-    let word = dim_word(kind, fifth);
-    let fits = zone_fits(limit, zones);
-    let room = unless(fits, Refusal::ZoneRoom, h.zone.at, Judged::Fine);
-    let after = dim_after(dim, word);
-    let known = dim_known(kind, after);
-    let none = unless(known, Refusal::Dimension, h.end, room);
-    let agrees = dim_agrees(dim, word);
-    let dimension = unless(agrees, Refusal::Dimension, place, none);
-    let element = fifth_listed(kind, fifth);
-    let fifths = unless(element, Refusal::Type, place, dimension);
-    let ztype = h.ztype;
-    let typed = type_listed(kind, ztype.value);
-    unless(typed, Refusal::Type, ztype.at, fifths)
+    let word = dim_word(kind, h.word());
+    ensure(type_listed(kind, h.ztype.value), Refusal::Type, h.ztype.at)?;
+    ensure(fifth_listed(kind, h.word()), Refusal::Type, h.place())?;
+    ensure(dim_agrees(x.dim, word), Refusal::Dimension, h.place())?;
+    ensure(
+        dim_known(kind, dim_after(x.dim, word)),
+        Refusal::Dimension,
+        h.end,
+    )?;
+    ensure(
+        zone_fits(limit, x.zones as usize),
+        Refusal::ZoneRoom,
+        h.zone.at,
+    )
 }
 
-// Undeclared, Range, Overlap, and then the words.
+// Undeclared, Range, Overlap, and then the words. The limit is on zone records.
 pub fn part_judged(
     kind: Kind,
-    seen: Seen,
-    dim: u32,
-    zones: usize,
-    limit: Limit,
+    x: State,
+    limit: Option<usize>,
     h: Head,
     apart: bool,
-) -> Judged
-    ensures { result ≡ part_judged kind seen dim zones limit h apart }
+) -> Result<(), Bad>
+    ensures { result ≡ part_judged kind x limit h apart }
 {
     let first = h.first;
-    let last = h.last.value;
-    let zone = h.zone;
-    let words = words_judged(kind, dim, zones, limit, h);
-    let overlap = unless(apart, Refusal::Overlap, first.at, words);
-    let ranged = part_range(seen.total, zone.value, first.value, last);
-    let range = unless(ranged, Refusal::Range, first.at, overlap);
-    unless(seen.declared, Refusal::Undeclared, zone.at, range)
+    let undeclared = Bad {
+        why: Refusal::Undeclared,
+        offset: h.zone.at,
+    };
+    let total = x.seen(kind).ok_or(undeclared)?;
+    ensure(
+        part_range(total, h.zone.value, first.value, h.last.value),
+        Refusal::Range,
+        first.at,
+    )?;
+    ensure(apart, Refusal::Overlap, first.at)?;
+    words_judged(kind, x, limit, h)
 }

@@ -3,4 +3,4 @@
 
 mod judge;
 
-pub use judge::{Judged, decl_judged, part_judged, unless};
+pub use judge::{decl_judged, ensure, part_judged};

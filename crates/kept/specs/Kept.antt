@@ -1,33 +1,23 @@
--- The regular sections of a kind, latest first, out of three lists side by side. Assumes nothing.
-use Rattle.std.specs.Prelude.{ℕ, zero, suc, List, [], ◌∷◌, Bool, true, false, ◌&&◌, ◌||◌, ltb, leb, eqb, get_or}
-use Rattle.layout.specs.State.{Span, covers}
-use Rattle.kept.specs.declared.Entry.{Entry}
+-- The regular sections of a kind, latest first, out of those that are kept. Assumes nothing.
+use Rattle.std.specs.Prelude.{ℕ, List, [], ◌∷◌, Bool, true, false, ◌&&◌, leb, eqb, take}
+use Rattle.layout.specs.State.{Span}
+use Rattle.kept.specs.declared.Kept.{Kept}
 
-abbrev pub entry_clear : ℕ → ℕ → Entry → Bool
-entry_clear f l Entry.Other = true
-entry_clear f l (Entry.Span a b) = ltb b f || ltb l a
+abbrev pub span_for : Kept → Span
+span_for k = record { first = k.first; last = k.last }
 
-abbrev pub entry_covers : ℕ → Entry → Bool
-entry_covers i Entry.Other = false
-entry_covers i (Entry.Span a b) = leb a i && leb i b
+-- a section is put on top, if it is of the kind asked for
+abbrev pub on_top : ℕ → Kept → List Span → List Span
+on_top id k bs = elim (eqb k.id id) [ true ↦ span_for k ∷ bs | false ↦ bs ]
 
-abbrev pub entry_last : Entry → ℕ
-entry_last Entry.Other = 0
-entry_last (Entry.Span a b) = b
+unfoldable pub stacked : ℕ → List Kept → List Span → List Span
+stacked id [] bs = bs
+stacked id (k ∷ ks) bs = stacked id ks (on_top id k bs)
 
-abbrev pub consed : Entry → List Span → List Span
-consed Entry.Other bs = bs
-consed (Entry.Span a b) bs = record { first = a; last = b } ∷ bs
+-- out of the first z
+abbrev pub kept_of : List Kept → ℕ → ℕ → List Span
+kept_of ks id z = stacked id (take z ks) []
 
-module _ (ids firsts lasts : List ℕ) where
-  abbrev pub entry_at : ℕ → ℕ → Entry
-  entry_at i id = elim (eqb (get_or ids i 0) id) [ true ↦ Entry.Span (get_or firsts i 0) (get_or lasts i 0) | false ↦ Entry.Other ]
-
-  unfoldable pub kept_of : ℕ → ℕ → List Span
-  kept_of id zero = []
-  kept_of id (suc z) = consed (entry_at z id) (kept_of id z)
-
--- the last index of the first span that has i in it
-unfoldable pub reach_of : List Span → ℕ → ℕ
-reach_of [] i = 0
-reach_of (b ∷ bs) i = elim (covers i b) [ true ↦ b.last | false ↦ reach_of bs i ]
+-- of the kind asked for, with i in it
+abbrev pub holds : ℕ → ℕ → Kept → Bool
+holds id i k = eqb k.id id && leb k.first i && leb i k.last

@@ -1,10 +1,10 @@
 -- What comes behind a thing of the grammar is the end of what the thing began with. Assumes nothing.
+use Rattle.std.specs.Prelude.{Option}
 use Prim.Native.Nat.{ℕ, ◌≤◌, ◌<◌}
 use native.Mathlib.Omega.{arith}
 use mathlib.Core.List.{List, ◌∷◌}
 use lib.ListN.{length}
 use Rattle.tokens.specs.Listed.{Tok}
-use Rattle.numbers.specs.declared.whole.Whole.{Whole}
 use Rattle.layout.specs.Items.{Kind, Perhaps, Header, Body, Item}
 use Rattle.layout.specs.Grammar.{Left, is_left, Right, is_right, Number, number, Hex, Coordinate, coordinate, Fifth, present, missing, Heading, heading, Rows, no_rows, a_row, Enclosed, enclosed, Element, element, Facing, facing, Mixed, mixed, BodyOf, node_body, cell_mixed, cell_same, face_mixed, face_same, Inside, closed, a_word, a_text, nested, Section, two, declares, regular, stepped}
 
@@ -28,10 +28,10 @@ left_behind is_left = on all
 right_behind : {ts us : List Tok} → Right ts us → Behind us ts
 right_behind is_right = on all
 
-number_behind : {f : List ℕ → Whole} {ts us : List Tok} {v : ℕ} → Number f ts v us → Behind us ts
+number_behind : {f : List ℕ → Option ℕ} {ts us : List Tok} {v : ℕ} → Number f ts v us → Behind us ts
 number_behind (number e) = on all
 
-number_less : {f : List ℕ → Whole} {ts us : List Tok} {v : ℕ} → Number f ts v us → length us < length ts
+number_less : {f : List ℕ → Option ℕ} {ts us : List Tok} {v : ℕ} → Number f ts v us → length us < length ts
 number_less (number e) = omega arith
 
 fifth_behind : {ts us : List Tok} {v : Perhaps} → Fifth ts v us → Behind us ts

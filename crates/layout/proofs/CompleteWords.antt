@@ -1,4 +1,5 @@
 -- Words, bodies and headers that are laid out as the grammar says are read. Assumes nothing.
+use Rattle.std.specs.Prelude.{Option}
 use Prim.Native.Nat.{ℕ, zero, suc, ◌<◌}
 use native.Mathlib.Omega.{arith}
 use mathlib.Core.Path.{◌≡◌, refl, ◌∙◌, ap}
@@ -9,7 +10,6 @@ use lib.Dec.{eqb}
 use Rattle.facts.proofs.Decides.{and_is, le_is, or_right}
 use Rattle.sizes.specs.Sizes.{depth}
 use Rattle.tokens.specs.Listed.{Tok, left, right, text, cut, word}
-use Rattle.numbers.specs.declared.whole.Whole.{Whole}
 use Rattle.numbers.specs.declared.sort.Sort.{Sort}
 use Rattle.decimals.proofs.Exactly.{coordinate_of_exactly}
 use Rattle.layout.specs.Items.{Kind, node, cell, face, Perhaps, absent, given, Header, Pair, Body, Wide}
@@ -41,7 +41,7 @@ module _ (size : ℕ) where
   unfolding right_of
   right_is is_right = refl
 
-  pub number_is : {f : List ℕ → Whole} {ts us : List Tok} {v : ℕ} (k : Sort) → Number f ts v us → number_by size f k ts ≡ got (read_at v ts) us
+  pub number_is : {f : List ℕ → Option ℕ} {ts us : List Tok} {v : ℕ} (k : Sort) → Number f ts v us → number_by size f k ts ≡ got (read_at v ts) us
   unfolding word_of
   number_is k (number e) = rw e
 

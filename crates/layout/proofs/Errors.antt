@@ -1,4 +1,5 @@
 -- [01:Errors meshers have really made]. Three errors of the earlier readers, each shut out by a theorem of its name. Assumes nothing.
+use Rattle.std.specs.Prelude as Std
 use Prim.Native.Nat.{ℕ, suc, ◌+◌, ◌-◌, ◌*◌, ◌≤◌, ◌<◌}
 use native.Mathlib.Nat.{mul-add, mul-le-mul_left}
 use native.Mathlib.Omega.{arith}
@@ -8,8 +9,7 @@ use mathlib.Core.List.Memᴰ
 use mathlib.Core.List.{List, [], ◌∷◌, ◌++◌, Memᴰ}
 use lib.ListN.{length, get_or}
 use Rattle.facts.specs.Text.{bytes}
-use Rattle.tokens.specs.Listed.{Tok, left, right, word}
-use Rattle.numbers.specs.declared.whole.Whole.{Whole}
+use Rattle.tokens.specs.Listed.{Tok, left, word}
 use Rattle.digits.specs.Digits.{digit_of, digits_in}
 use Rattle.numbers.specs.Whole.{hexadecimal_of, whole_of}
 use Rattle.mesh.specs.declared.Zone.{Zone}
@@ -112,7 +112,7 @@ no_corner_is_lost l h fs m =
 -- these tokens begin with a header whose fourth word has this value
 pub data TypeWord : List Tok → ℕ → Type 0 where
   fourth : {a b c d e t : ℕ} {z f l w : List ℕ} {us : List Tok}
-      → hexadecimal_of w ≡ Whole.Is t → TypeWord (left a ∷ word b z ∷ word c f ∷ word d l ∷ word e w ∷ us) t
+      → hexadecimal_of w ≡ Std.Some t → TypeWord (left a ∷ word b z ∷ word c f ∷ word d l ∷ word e w ∷ us) t
 
 type_word : {ts us : List Tok} {h : Header} → Heading ts h us → TypeWord ts h.type
 type_word (heading is_left (number z) (number f) (number l) (number t) v r) = fourth t
@@ -126,6 +126,6 @@ zone_types_are_hexadecimal {h = h} a = (
 )
 
 -- "Type `24` read as decimal. It is 36, outflow; interface is `18`."
-pub outflow_is_24 : (hexadecimal_of (bytes "24") ≡ Whole.Is 36) × (hexadecimal_of (bytes "18") ≡ Whole.Is 24)
+pub outflow_is_24 : (hexadecimal_of (bytes "24") ≡ Std.Some 36) × (hexadecimal_of (bytes "18") ≡ Std.Some 24)
 unfolding digit_of digits_in whole_of
 outflow_is_24 = (refl, refl)

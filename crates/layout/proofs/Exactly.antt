@@ -1,4 +1,7 @@
 -- A file is accepted exactly when it says a mesh and there is room for it, and then it is that mesh. Assumes nothing.
+use Rattle.std.specs.Prelude.{Ok}
+use Rattle.layout.specs.declared.Accepted.{Accepted}
+use Rattle.layout.specs.Replies.{Reply, accepts}
 use Prim.Native.Nat.{ℕ, suc, ◌*◌, ◌/◌, ◌≤◌}
 use native.Mathlib.Nat.{mul-le-mul_left, mul-div-le, min-le_left, min-le_right}
 use native.Mathlib.Omega.{arith}
@@ -11,7 +14,6 @@ use borrow.Author.Tests.{not-true}
 use lib.IntN.{pos}
 use lib.ListN.{length}
 use Rattle.mesh.specs.Rows.{places, face_words, cell_words, node_words}
-use Rattle.layout.specs.declared.Reply.{Reply}
 use Rattle.layout.specs.Items.{Kind, node, cell, face, Item, dim, decl, part, other}
 use Rattle.layout.specs.Keeps.{room_for, Within, Some, Declares, parts_in}
 use Rattle.layout.specs.Rows.{Table, Holding, pieces_of, mantissa_table, exponent_table, face_table, cell_table, zones_of, zone_pieces, no_zone, Lent, room_of, Holds}
@@ -40,7 +42,7 @@ zones_length (other ∷ is) = zones_length is
 
 -- the reader's result when it accepts a mesh
 abbrev pub accepted_as : Mesh → Result
-accepted_as m = record { reply = Reply.Accepted m.dimension m.nodes m.faces m.cells m.zones; held = m.held }
+accepted_as m = record { reply = accepts m.dimension m.nodes m.faces m.cells m.zones; held = m.held }
 
 module _ (s : List ℕ) (old : Lent) where
   module _ (is : List Item) (l : LaidText (room_of old) s is) where
@@ -147,13 +149,17 @@ module _ (s : List ℕ) (old : Lent) where
   accepted_one : (m n : Mesh) → accepted_as m ≡ accepted_as n → m ≡ n
   accepted_one m n e =
       let r = ap (λ (x : Result). x.reply) e in
-      let d : m.dimension ≡ n.dimension = cc in
-      let a : m.nodes ≡ n.nodes = cc in
-      let f : m.faces ≡ n.faces = cc in
-      let c : m.cells ≡ n.cells = cc in
-      let z : m.zones ≡ n.zones = cc in
+      let same = said r in
+      let d = ap (λ (x : Accepted). x.dim) same in
+      let a = ap (λ (x : Accepted). x.nodes) same in
+      let f = ap (λ (x : Accepted). x.faces) same in
+      let c = ap (λ (x : Accepted). x.cells) same in
+      let z = ap (λ (x : Accepted). x.zones) same in
       let h = ap (λ (x : Result). x.held) e in
       λ i. record { dimension = d i; nodes = a i; faces = f i; cells = c i; zones = z i; held = h i }
+    where
+      said : {a b : Accepted} → ◌≡◌ {A = Reply} (Ok a) (Ok b) → a ≡ b
+      said e = cc
 
   mesh_of_lem : (x : State) (is : List Item) (m : Mesh) → result_of (accepted x is) old ≡ accepted_as m → x ≡ after_all start is
       → (l : LaidText (room_of old) s is) → mesh is l ≡ m

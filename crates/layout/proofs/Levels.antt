@@ -1,9 +1,9 @@
 -- Each thing of the grammar leaves the parentheses as deep as it found them, and a section closes its own. Assumes nothing.
+use Rattle.std.specs.Prelude.{Option}
 use Prim.Native.Nat.{ℕ, suc}
 use mathlib.Core.Path.{◌≡◌, refl, ◌∙◌}
 use mathlib.Core.List.{List}
 use Rattle.tokens.specs.Listed.{Tok}
-use Rattle.numbers.specs.declared.whole.Whole.{Whole}
 use Rattle.layout.specs.Items.{Kind, Perhaps, Header, Body, Item}
 use Rattle.layout.specs.Grammar.{Left, is_left, Right, is_right, Number, number, Hex, Coordinate, coordinate, Fifth, present, missing, Heading, heading, Rows, no_rows, a_row, Enclosed, enclosed, Element, element, Facing, facing, Mixed, mixed, BodyOf, node_body, cell_mixed, cell_same, face_mixed, face_same, Inside, closed, a_word, a_text, nested, Section, two, declares, regular, stepped}
 use Rattle.layout.specs.Replies.{opened}
@@ -15,7 +15,7 @@ left_level is_left d = refl
 right_level : {ts us : List Tok} → Right ts us → (d : ℕ) → opened ts (suc d) ≡ opened us d
 right_level is_right d = refl
 
-number_level : {f : List ℕ → Whole} {ts us : List Tok} {v : ℕ} → Number f ts v us → (d : ℕ) → opened ts d ≡ opened us d
+number_level : {f : List ℕ → Option ℕ} {ts us : List Tok} {v : ℕ} → Number f ts v us → (d : ℕ) → opened ts d ≡ opened us d
 number_level (number e) d = refl
 
 fifth_level : {ts us : List Tok} {v : Perhaps} → Fifth ts v us → (d : ℕ) → opened ts d ≡ opened us d

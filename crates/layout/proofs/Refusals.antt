@@ -1,8 +1,11 @@
 -- A refusal has one of the paper's numbers, points into the file, and changes nothing. Assumes nothing.
+use Rattle.std.specs.Prelude.{Err}
+use Rattle.layout.specs.declared.Refused.{Refused}
+use Rattle.layout.specs.Replies.{Reply, refuses}
 use Prim.Native.Nat.{ℕ, zero, suc, ◌+◌, ◌≤◌}
 use native.Mathlib.Omega.{arith}
 use native.Mathlib.Nat.{le_refl}
-use mathlib.Core.Path.{◌≡◌, refl}
+use mathlib.Core.Path.{◌≡◌, refl, ap}
 use mathlib.Core.List.{List, [], ◌∷◌, ◌++◌}
 use mathlib.Core.Bool.{Bool, true, false, ◌&&◌, not}
 use lib.Dec.{leb, eqb}
@@ -12,7 +15,6 @@ use Rattle.sizes.specs.Sizes.{file_bytes}
 use Rattle.tokens.specs.Listed.{Tok, left, right, text, cut, word, tokens_of}
 use Rattle.tokens.proofs.Text.{text_exactly}
 use Rattle.layout.specs.declared.Refusal.{Refusal}
-use Rattle.layout.specs.declared.Reply.{Reply}
 use Rattle.layout.specs.Items.{Item}
 use Rattle.layout.specs.Keeps.{Room}
 use Rattle.layout.specs.Rows.{Lent, room_of}
@@ -94,15 +96,19 @@ answer_placed room s =
     (λ _. let a : 0 ≤ sections_in (tokens_of s) = omega arith in let b : 0 ≤ length s = omega arith in placed a b)
 
 module _ (s : List ℕ) (old : Lent) (w : Refusal) (k o : ℕ) where
-  by_answer : {a : Answer} → Placed (sections_in (tokens_of s)) (length s) a → (result_of a old).reply ≡ Reply.Refused w k o
+  by_answer : {a : Answer} → Placed (sections_in (tokens_of s)) (length s) a → (result_of a old).reply ≡ refuses w k o
       → Points s w k o × ((result_of a old).held ≡ old)
   by_answer all_read e = absurd (let z : ◌≡◌ {A = ℕ} 0 1 = cc in omega arith)
   by_answer (placed {k = j} {o = q} l h) e =
-      let a : j ≡ k = cc in
-      let b : q ≡ o = cc in
+      let same = said e in
+      let a = ap (λ (x : Refused). x.section) same in
+      let b = ap (λ (x : Refused). x.offset) same in
       (record { low = (number_of_within w).0; high = (number_of_within w).1; section = omega arith; offset = omega arith }, refl)
+    where
+      said : {a b : Refused} → ◌≡◌ {A = Reply} (Err a) (Err b) → a ≡ b
+      said e = cc
 
   -- the law
-  pub refusal_points : (read_of s old).reply ≡ Reply.Refused w k o → Points s w k o × ((read_of s old).held ≡ old)
+  pub refusal_points : (read_of s old).reply ≡ refuses w k o → Points s w k o × ((read_of s old).held ≡ old)
   unfolding read_of
   refusal_points e = by_answer (answer_placed (room_of old) s) e

@@ -1,4 +1,5 @@
 -- A refusal of words, bodies and headers points into the file: its offset is at most the file's length. Assumes nothing.
+use Rattle.std.specs.Prelude.{Option, Some, None}
 use Prim.Native.Nat.{ℕ, zero, suc, ◌+◌, ◌≤◌}
 use native.Mathlib.Omega.{arith}
 use native.Mathlib.Nat.{le_refl}
@@ -11,7 +12,6 @@ use Rattle.facts.proofs.Branch.{either}
 use Rattle.sizes.specs.Sizes.{depth}
 use Rattle.tokens.specs.Listed.{Tok, left, right, text, cut, word}
 use Rattle.tokens.specs.Text.{Text, nothing, blank, opened, shut, string, unclosed, a_word}
-use Rattle.numbers.specs.declared.whole.Whole.{Whole}
 use Rattle.decimals.specs.declared.decimal.Decimal.{Decimal}
 use Rattle.numbers.specs.declared.sort.Sort.{Sort}
 use Rattle.numbers.specs.Whole.{hexadecimal_of}
@@ -103,12 +103,12 @@ module _ (size : ℕ) where
   word_safe P f h (cut o ∷ ts) (one_in p i) = points p
   word_safe P f h (word o w ∷ ts) (one_in p i) = h o w p ts i
 
-  pub number_safe : (f : List ℕ → Whole) (k : Sort) → Safely Placed (number_by size f k)
+  pub number_safe : (f : List ℕ → Option ℕ) (k : Sort) → Safely Placed (number_by size f k)
   number_safe f k = word_safe Placed _ λ o w l. by_value o w l (f w)
     where
-      by_value : (o : ℕ) (w : List ℕ) → o + length w ≤ size → (n : Whole) → Safely Placed (numbered size k n o w)
-      by_value o w l (Whole.Is v) ts i = let p : o ≤ size = omega arith in safe p i
-      by_value o w l Whole.Not ts i = points {o = o + bad_at k w} (omega (arith, bad_at_within k w))
+      by_value : (o : ℕ) (w : List ℕ) → o + length w ≤ size → (n : Option ℕ) → Safely Placed (numbered size k n o w)
+      by_value o w l (Some v) ts i = let p : o ≤ size = omega arith in safe p i
+      by_value o w l None ts i = points {o = o + bad_at k w} (omega (arith, bad_at_within k w))
 
   pub hex_safe : Safely Placed (hex_word size)
   hex_safe = number_safe hexadecimal_of Sort.Hexadecimal
@@ -116,9 +116,9 @@ module _ (size : ℕ) where
   pair_safe : Safely Any (pair_word size)
   pair_safe = word_safe Any _ λ o w l. by_value o w l (coordinate_of w)
     where
-      by_value : (o : ℕ) (w : List ℕ) → o + length w ≤ size → (n : Decimal) → Safely Any (paired size n o w)
-      by_value o w l (Decimal.Is m e) ts i = safe tt i
-      by_value o w l Decimal.Not ts i = points {o = o + bad_at Sort.Coordinate w} (omega (arith, bad_at_within Sort.Coordinate w))
+      by_value : (o : ℕ) (w : List ℕ) → o + length w ≤ size → (n : Option Decimal) → Safely Any (paired size n o w)
+      by_value o w l (Some d) ts i = safe tt i
+      by_value o w l None ts i = points {o = o + bad_at Sort.Coordinate w} (omega (arith, bad_at_within Sort.Coordinate w))
 
   pub skip_safe : (d : ℕ) → Safely Any (skip size d)
   unfolding skip

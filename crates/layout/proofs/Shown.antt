@@ -1,11 +1,12 @@
 -- The paper's numbers and values tell every two answers apart. Assumes nothing.
+use Rattle.layout.specs.Replies.{Reply, accepts, refuses}
+use Rattle.std.specs.Prelude.{Ok, Err}
 use Prim.Native.Nat.{ℕ, ◌-◌}
 use native.Mathlib.Omega.{arith}
 use mathlib.Core.Path.{◌≡◌, refl, sym, ◌∙◌, ap}
 use mathlib.Core.List.{List, [], ◌∷◌}
 use lib.ListN.{get_or}
 use Rattle.layout.specs.declared.Refusal.{Refusal}
-use Rattle.layout.specs.declared.Reply.{Reply}
 use Rattle.layout.specs.Replies.{number_of, Shown, shown}
 use Rattle.layout.specs.Read.{Result, Outcome, outcome}
 use Rattle.layout.proofs.Refusals.{number_of_within}
@@ -38,20 +39,20 @@ number_of_only_lem : (v w : Refusal) → number_of v ≡ number_of w → v ≡ w
 number_of_only_lem v w e = sym (named_is v) ∙ ap named e ∙ named_is w
 
 pub shown_only : (a b : Reply) → shown a ≡ shown b → a ≡ b
-shown_only (Reply.Accepted d n f c z) (Reply.Accepted d' n' f' c' z') e =
+shown_only (Ok a) (Ok b) e =
     let p = ap (λ (y : Shown). y.dimension) e in
     let q = ap (λ (y : Shown). y.nodes) e in
     let r = ap (λ (y : Shown). y.faces) e in
     let s = ap (λ (y : Shown). y.cells) e in
     let t = ap (λ (y : Shown). y.zones) e in
-    λ i. Reply.Accepted (p i) (q i) (r i) (s i) (t i)
-shown_only (Reply.Accepted d n f c z) (Reply.Refused w k o) e = absurd (let p : 0 ≡ number_of w = ap (λ (y : Shown). y.number) e in omega (arith, (number_of_within w).0))
-shown_only (Reply.Refused w k o) (Reply.Accepted d n f c z) e = absurd (let p : number_of w ≡ 0 = ap (λ (y : Shown). y.number) e in omega (arith, (number_of_within w).0))
-shown_only (Reply.Refused w k o) (Reply.Refused v j q) e =
-    let a = number_of_only_lem w v (ap (λ (y : Shown). y.number) e) in
-    let b = ap (λ (y : Shown). y.section) e in
-    let c = ap (λ (y : Shown). y.offset) e in
-    λ i. Reply.Refused (a i) (b i) (c i)
+    λ i. accepts (p i) (q i) (r i) (s i) (t i)
+shown_only (Ok a) (Err b) e = absurd (let p : 0 ≡ number_of b.why = ap (λ (y : Shown). y.number) e in omega (arith, (number_of_within b.why).0))
+shown_only (Err a) (Ok b) e = absurd (let p : number_of a.why ≡ 0 = ap (λ (y : Shown). y.number) e in omega (arith, (number_of_within a.why).0))
+shown_only (Err a) (Err b) e =
+    let p = number_of_only_lem a.why b.why (ap (λ (y : Shown). y.number) e) in
+    let q = ap (λ (y : Shown). y.section) e in
+    let r = ap (λ (y : Shown). y.offset) e in
+    λ i. refuses (p i) (q i) (r i)
 
 pub outcome_only : (a b : Result) → outcome a ≡ outcome b → a ≡ b
 outcome_only a b e =

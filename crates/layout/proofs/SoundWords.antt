@@ -1,4 +1,5 @@
 -- What a reader of words, bodies and headers accepts is laid out as the grammar says. Assumes nothing.
+use Rattle.std.specs.Prelude.{Option, Some, None}
 use Prim.Native.Nat.{ℕ, zero, suc, ◌<◌}
 use native.Mathlib.Omega.{arith}
 use mathlib.Core.Path.{◌≡◌, refl}
@@ -9,7 +10,6 @@ use Rattle.facts.proofs.Branch.{differ}
 use Rattle.facts.proofs.Decides.{and_is, le_is, and_split}
 use Rattle.sizes.specs.Sizes.{depth}
 use Rattle.tokens.specs.Listed.{Tok, left, right, text, cut, word}
-use Rattle.numbers.specs.declared.whole.Whole.{Whole}
 use Rattle.decimals.specs.declared.decimal.Decimal.{Decimal}
 use Rattle.numbers.specs.declared.sort.Sort.{Sort}
 use Rattle.numbers.specs.Whole.{hexadecimal_of}
@@ -70,13 +70,13 @@ module _ (size : ℕ) where
   word_holds P f h (cut o ∷ ts) = none
   word_holds P f h (word o w ∷ ts) = h o w ts
 
-  pub number_holds : (f : List ℕ → Whole) (k : Sort) (ts : List Tok) → Held (λ r us. Number f ts r.value us) (number_by size f k ts)
+  pub number_holds : (f : List ℕ → Option ℕ) (k : Sort) (ts : List Tok) → Held (λ r us. Number f ts r.value us) (number_by size f k ts)
   number_holds f k = word_holds (λ ts r us. Number f ts r.value us) (λ o w. numbered size k (f w) o w) λ o w us. by_value o w us (f w) refl
     where
-      by_value : (o : ℕ) (w : List ℕ) (us : List Tok) (n : Whole) → f w ≡ n
+      by_value : (o : ℕ) (w : List ℕ) (us : List Tok) (n : Option ℕ) → f w ≡ n
           → Held (λ (r : Read) us'. Number f (word o w ∷ us) r.value us') (numbered size k n o w us)
-      by_value o w us (Whole.Is v) e = held (number e)
-      by_value o w us Whole.Not e = none
+      by_value o w us (Some v) e = held (number e)
+      by_value o w us None e = none
 
   pub hex_holds : (ts : List Tok) → Held (λ r us. Hex ts r.value us) (hex_word size ts)
   hex_holds = number_holds hexadecimal_of Sort.Hexadecimal
@@ -84,9 +84,9 @@ module _ (size : ℕ) where
   pair_holds : (ts : List Tok) → Held (λ p us. Coordinate ts p us) (pair_word size ts)
   pair_holds = word_holds Coordinate (λ o w. paired size (coordinate_of w) o w) λ o w us. by_value o w us (coordinate_of w) refl
     where
-      by_value : (o : ℕ) (w : List ℕ) (us : List Tok) (n : Decimal) → coordinate_of w ≡ n → Held (Coordinate (word o w ∷ us)) (paired size n o w us)
-      by_value o w us (Decimal.Is m e) q = held (coordinate ((coordinate_of_exactly w m e).0 q))
-      by_value o w us Decimal.Not q = none
+      by_value : (o : ℕ) (w : List ℕ) (us : List Tok) (n : Option Decimal) → coordinate_of w ≡ n → Held (Coordinate (word o w ∷ us)) (paired size n o w us)
+      by_value o w us (Some d) q = held (coordinate ((coordinate_of_exactly w d.mantissa d.exponent).0 q))
+      by_value o w us None q = none
 
   pub skip_holds : (d : ℕ) (ts : List Tok) → Held (λ _ us. Levels d ts us) (skip size d ts)
   unfolding skip

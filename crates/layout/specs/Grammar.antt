@@ -1,9 +1,8 @@
 -- [01:Tokens], [01:Sections that are read]. The shape of a file: which tokens are which items. Each relation says that a list of tokens
 -- begins with a thing, and that `us` comes behind it. To be believed: all of this file. Assumes nothing.
-use Rattle.std.specs.Prelude.{ℕ, zero, suc, ◌≤◌, ◌<◌, ◌≡◌, ◌⊎◌, List, [], ◌∷◌, ℤ, replicate}
+use Rattle.std.specs.Prelude.{ℕ, zero, suc, ◌≤◌, ◌<◌, ◌≡◌, ◌⊎◌, List, [], ◌∷◌, ℤ, replicate, Option, Some}
 use Rattle.sizes.specs.Sizes.{depth}
 use Rattle.tokens.specs.Listed.{Tok, left, right, text, word}
-use Rattle.numbers.specs.declared.whole.Whole.{Whole}
 use Rattle.numbers.specs.Whole.{hexadecimal_of, section_id_of}
 use Rattle.decimals.specs.Value.{Means}
 use Rattle.layout.specs.Items.{Kind, node, cell, face, id_of, Perhaps, absent, given, Header, count_of, Pair, Facet, Body, points, elements, facets, Item, dim, decl, part, other}
@@ -15,8 +14,8 @@ pub data Right : List Tok → List Tok → Type 0 where
   is_right : {o : ℕ} {us : List Tok} → Right (right o ∷ us) us
 
 -- a word that is a whole number of a sort
-pub data Number (f : List ℕ → Whole) : List Tok → ℕ → List Tok → Type 0 where
-  number : {o : ℕ} {w : List ℕ} {v : ℕ} {us : List Tok} → f w ≡ Whole.Is v → Number f (word o w ∷ us) v us
+pub data Number (f : List ℕ → Option ℕ) : List Tok → ℕ → List Tok → Type 0 where
+  number : {o : ℕ} {w : List ℕ} {v : ℕ} {us : List Tok} → f w ≡ Some v → Number f (word o w ∷ us) v us
 
 -- "The id is 1 to 5 decimal digits. All other whole numbers are hexadecimal"
 abbrev pub Id : List Tok → ℕ → List Tok → Type 0

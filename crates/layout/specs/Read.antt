@@ -1,10 +1,10 @@
 -- [01:Refusal numbers]. Reading, executable: from the bytes and what is lent to the answer and what the lent tables and list then hold. Assumes nothing.
+use Rattle.layout.specs.Replies.{Reply, accepts, refuses}
 use Rattle.std.specs.Prelude.{ℕ, zero, suc, List, [], ◌∷◌, Bool, true, false, ◌&&◌, not, leb, eqb, length}
 use Rattle.std.proofs.lemmas.List.Edits.{sets}
 use Rattle.sizes.specs.Sizes.{file_bytes}
 use Rattle.tokens.specs.Listed.{Tok, left, right, text, cut, word, tokens_of}
 use Rattle.layout.specs.declared.Refusal.{Refusal}
-use Rattle.layout.specs.declared.Reply.{Reply}
 use Rattle.layout.specs.Items.{Item}
 use Rattle.layout.specs.Keeps.{Room}
 use Rattle.layout.specs.Rows.{Piece, pieces_of, mantissa_table, exponent_table, face_table, cell_table, zone_pieces, Lent, room_of}
@@ -90,8 +90,8 @@ outcome r = record { shown = shown r.reply; held = r.held }
 -- "A refusal .. changes no table or list."
 abbrev pub result_of : Answer → Lent → Result
 result_of (accepted x is) old =
-    record { reply = Reply.Accepted x.dimension x.nodes.total x.faces.total x.cells.total x.zones; held = filled is old }
-result_of (refused w k o) old = record { reply = Reply.Refused w k o; held = old }
+    record { reply = accepts x.dimension x.nodes.total x.faces.total x.cells.total x.zones; held = filled is old }
+result_of (refused w k o) old = record { reply = refuses w k o; held = old }
 
 unfoldable pub read_of : List ℕ → Lent → Result
 read_of s old = result_of (answer_of (room_of old) s) old

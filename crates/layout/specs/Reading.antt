@@ -1,8 +1,7 @@
 -- [01:Refusal numbers], "Then tokens left to right". Readers: from the tokens ahead to a thing and the tokens behind it, or a refusal and its offset. Assumes nothing.
-use Rattle.std.specs.Prelude.{ℕ, zero, suc, ◌+◌, List, [], ◌∷◌, Bool, true, false, ltb}
+use Rattle.std.specs.Prelude.{ℕ, zero, suc, ◌+◌, List, [], ◌∷◌, Bool, true, false, ltb, Option, Some, None}
 use Rattle.sizes.specs.Sizes.{depth}
 use Rattle.tokens.specs.Listed.{Tok, left, right, text, cut, word}
-use Rattle.numbers.specs.declared.whole.Whole.{Whole}
 use Rattle.decimals.specs.declared.decimal.Decimal.{Decimal}
 use Rattle.numbers.specs.declared.sort.Sort.{Sort}
 use Rattle.numbers.specs.Whole.{hexadecimal_of, section_id_of}
@@ -72,15 +71,15 @@ module _ (size : ℕ) where
   word_of f (word o w ∷ ts) = f o w ts
 
   -- "Number: word is not a number of its sort"
-  abbrev pub numbered : Sort → Whole → ℕ → List ℕ → Reader Read
-  numbered k (Whole.Is v) o w ts = got (record { value = v; at = o }) ts
-  numbered k Whole.Not o w ts = bad Refusal.Number (o + bad_at k w)
+  abbrev pub numbered : Sort → Option ℕ → ℕ → List ℕ → Reader Read
+  numbered k (Some v) o w ts = got (record { value = v; at = o }) ts
+  numbered k None o w ts = bad Refusal.Number (o + bad_at k w)
 
-  abbrev pub paired : Decimal → ℕ → List ℕ → Reader Pair
-  paired (Decimal.Is m e) o w ts = got (record { mantissa = m; exponent = e }) ts
-  paired Decimal.Not o w ts = bad Refusal.Number (o + bad_at Sort.Coordinate w)
+  abbrev pub paired : Option Decimal → ℕ → List ℕ → Reader Pair
+  paired (Some d) o w ts = got (record { mantissa = d.mantissa; exponent = d.exponent }) ts
+  paired None o w ts = bad Refusal.Number (o + bad_at Sort.Coordinate w)
 
-  abbrev pub number_by : (List ℕ → Whole) → Sort → Reader Read
+  abbrev pub number_by : (List ℕ → Option ℕ) → Sort → Reader Read
   number_by f k = word_of (λ o w. numbered k (f w) o w)
 
   abbrev pub id_word : Reader Read

@@ -1,8 +1,9 @@
 -- [01:Refusal numbers]. The paper's number and values of each answer. To be believed: all of this file. Assumes nothing.
-use Rattle.std.specs.Prelude.{ℕ, zero, suc, ◌≤◌, List, [], ◌∷◌, length}
+use Rattle.std.specs.Prelude.{ℕ, zero, suc, ◌≤◌, List, [], ◌∷◌, length, Result, Ok, Err}
 use Rattle.tokens.specs.Listed.{Tok, left, right, text, cut, word, tokens_of}
 use Rattle.layout.specs.declared.Refusal.{Refusal}
-use Rattle.layout.specs.declared.Reply.{Reply}
+use Rattle.layout.specs.declared.Accepted.{Accepted}
+use Rattle.layout.specs.declared.Refused.{Refused}
 
 abbrev pub number_of : Refusal → ℕ
 number_of Refusal.TooLong = 1
@@ -31,9 +32,19 @@ pub record Shown : Type 0 where
   pub cells : ℕ
   pub zones : ℕ
 
+-- the reader's answer: what an accepted file says, or why and where it is refused
+abbrev pub Reply : Type 0
+Reply = Result Accepted Refused
+
+abbrev pub accepts : ℕ → ℕ → ℕ → ℕ → ℕ → Reply
+accepts d n f c z = Ok (record { dim = d; nodes = n; faces = f; cells = c; zones = z })
+
+abbrev pub refuses : Refusal → ℕ → ℕ → Reply
+refuses w k o = Err (record { why = w; section = k; offset = o })
+
 abbrev pub shown : Reply → Shown
-shown (Reply.Accepted d n f c z) = record { number = 0; section = 0; offset = 0; dimension = d; nodes = n; faces = f; cells = c; zones = z }
-shown (Reply.Refused w k o) = record { number = number_of w; section = k; offset = o; dimension = 0; nodes = 0; faces = 0; cells = 0; zones = 0 }
+shown (Ok a) = record { number = 0; section = 0; offset = 0; dimension = a.dim; nodes = a.nodes; faces = a.faces; cells = a.cells; zones = a.zones }
+shown (Err b) = record { number = number_of b.why; section = b.section; offset = b.offset; dimension = 0; nodes = 0; faces = 0; cells = 0; zones = 0 }
 
 -- "top-level opening parentheses": those of these tokens, d levels deep
 abbrev pub opened : List Tok → ℕ → ℕ

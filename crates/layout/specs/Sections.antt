@@ -1,6 +1,6 @@
 -- [01:Refusal numbers], order: "A header, or section 2, is taken up to its `)` with 2, 3 and 4 as met; then 5 to 11 in number order; then the body, word by word,
 -- where 2, 3 and 9 can arise." Assumes nothing.
-use Rattle.std.specs.Prelude.{ℕ, zero, suc, ◌-◌, List, [], ◌∷◌, Bool, true, false, ◌&&◌, ◌||◌, not, ltb, leb, eqb, replicate}
+use Rattle.std.specs.Prelude.{ℕ, zero, suc, List, [], ◌∷◌, Bool, true, false, ◌&&◌, ◌||◌, not, ltb, leb, eqb, replicate}
 use Rattle.tokens.specs.Listed.{Tok, left, right, text, cut, word}
 use Rattle.layout.specs.declared.Refusal.{Refusal}
 use Rattle.layout.specs.Items.{Kind, node, cell, face, Perhaps, absent, given, Header, count_of, Facet, Body, points, elements, facets, Item, dim, decl, part, other, dim_word}

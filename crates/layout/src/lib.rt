@@ -2,7 +2,7 @@
 #![tactic(auto)]
 
 // Why a file is refused, in the order of the paper's numbers 1 to 14.
-#[derive(Clone, Copy)]
+#[derive(Clone, Copy, Debug, PartialEq, Eq)]
 pub enum Refusal {
     TooLong,
     Grammar,
@@ -20,19 +20,20 @@ pub enum Refusal {
     Untiled,
 }
 
-// The reader's answer.
-#[derive(Clone, Copy)]
-pub enum Reply {
-    Accepted {
-        dim: u32,
-        nodes: u32,
-        faces: u32,
-        cells: u32,
-        zones: u32,
-    },
-    Refused {
-        why: Refusal,
-        section: u32,
-        offset: usize,
-    },
+// What an accepted file says: its dimension, its totals, and how many zone records it has.
+#[derive(Clone, Copy, Debug, PartialEq, Eq)]
+pub struct Accepted {
+    pub dim: u32,
+    pub nodes: u32,
+    pub faces: u32,
+    pub cells: u32,
+    pub zones: u32,
+}
+
+// Why a file is refused, in which section, and at which byte.
+#[derive(Clone, Copy, Debug, PartialEq, Eq)]
+pub struct Refused {
+    pub why: Refusal,
+    pub section: u32,
+    pub offset: usize,
 }

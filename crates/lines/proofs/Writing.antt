@@ -1,5 +1,5 @@
 -- Bytes written one behind the other: what is written twice is written once. Assumes nothing.
-use Prim.Native.Nat.{ℕ, suc, ◌+◌, ◌-◌, ◌≤◌, ◌<◌, min}
+use Prim.Native.Nat.{ℕ, suc, ◌+◌, ◌≤◌, ◌<◌, min}
 use native.Mathlib.Omega.{arith}
 use native.Mathlib.Nat.{min-eq_left, min-eq_right, min-le_right}
 use mathlib.Core.Path.{◌≡◌, refl, sym, ◌∙◌, ap, subst}

@@ -9,28 +9,18 @@ use super::lines::{put_last, put_two};
 use super::put::{put_decimal, put_text};
 use records::Fault;
 
-// A byte as a number.
-fn wide(b: u8) -> u32
-    ensures { (result ≡ b) × (result < 256) }
-{
-    b as u32
-}
-
 // The number that n bytes write from `at` on, the highest first; of bytes that are not there it knows nothing.
 fn number_in(list: &[u8], at: usize, n: usize) -> u32
     requires { (n ≤ 3) × (at ≤ 2 ^ 63 + 8) }
     ensures { result ≡ from_big_endian (take n (drop at list.now)) }
 {
     let mut v: u32 = 0;
-    let mut i: usize = 0;
-    while i < n {
+    for i in 0..n {
         let j = at + i;
         if list.len() <= j {
             return v;
         }
-        let low = wide(list[j]);
-        v = v * 256 + low;
-        i += 1;
+        v = v * 256 + u32::from(list[j]);
     }
     v
 }
@@ -64,7 +54,7 @@ fn put_fault(out: &mut [u8], at: usize, f: Fault) -> usize
     put_two(out, c, index, extra)
 }
 
-// A line for each record of the list.
+// A line for each record of the list. Records differ in size, so no `for` goes over them.
 fn put_faults(out: &mut [u8], at: usize, list: &[u8]) -> usize
     requires { at ≤ length out.old }
     ensures { Wrote out.old at (record_lines (length list.now) list.now) out.new result }

@@ -15,26 +15,26 @@ fn put_byte(out: &mut [u8], at: usize, b: u8) -> usize
     at
 }
 
+// Byte by byte: texts are short, and to copy them as slices is slower.
 pub(crate) fn put_text(out: &mut [u8], at: usize, text: &[u8]) -> usize
     requires { at ≤ length out.old }
     ensures { Wrote out.old at text.now out.new result }
 {
     let mut c = at;
-    let mut i: usize = 0;
-    while i < text.len() {
-        c = put_byte(out, c, text[i]);
-        i += 1;
+    for b in text {
+        c = put_byte(out, c, *b);
     }
     c
 }
 
-// The figures of a number stand from `start` on.
+// The figures of a number stand from `start` on: they are found from the last to the first, and a function can't answer a part of an array of its own.
 #[derive(Clone, Copy)]
 struct Figures {
     b: [u8; 20],
     start: usize,
 }
 
+// No `for`: how many figures there are is known when they are made.
 fn figures_of(n: usize) -> Figures
     ensures { (drop result.start result.b ≡ decimal n) × (result.start < 20) × (length result.b ≡ 20) }
 {

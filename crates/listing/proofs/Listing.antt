@@ -1,23 +1,18 @@
--- Membership in a list, from an index on. Assumes nothing.
-use Prim.Native.Nat.{ℕ, ◌+◌, ◌≤◌, ◌<◌}
-use native.Mathlib.Numerals.{add-one}
-use mathlib.Core.Path.{◌≡◌}
-use mathlib.Core.List.{List}
-use mathlib.Core.Bool.{true, false}
-use borrow.Author.Tests.{eq-eqb, ne_eqb}
-use lib.ListN.{length, drop, get_or, drop_of_length-le}
-use lib.Seq.{drop-cons}
+-- A listed number is one that is in the list. Assumes nothing.
+use Prim.Native.Nat.{ℕ}
+use native.Mathlib.Omega.{arith}
+use mathlib.Core.Path.{◌≡◌, refl, ◌∙◌, ap}
+use mathlib.Core.List.{List, [], ◌∷◌}
+use mathlib.Core.Bool.{◌||◌}
+use lib.Dec.{eqb}
+use Rattle.std.proofs.lemmas.Bool.Decides.{nat_tests}
+use Rattle.std.specs.List.{list_any}
 use Rattle.layout.specs.State.{among}
 
-module _ (l : List ℕ) (i x : ℕ) where
-  pub among_more : i < length l → (x ≡ get_or l i 0 → ⊥) → among (drop (i + 1) l) x ≡ among (drop i l) x
-  unfolding among
-  among_more h n = rw (drop-cons l i 0 h, add-one, ne_eqb x (get_or l i 0) n, among)
+same_test : (u t : ℕ) → eqb u t ≡ eqb t u
+same_test u t = grind (arith, nat_tests)
 
-  pub among_hit : i < length l → x ≡ get_or l i 0 → true ≡ among (drop i l) x
-  unfolding among
-  among_hit h e = rw (drop-cons l i 0 h, eq-eqb x (get_or l i 0) e, among)
-
-  pub among_out : length l ≤ i → false ≡ among (drop i l) x
-  unfolding among
-  among_out h = rw (drop_of_length-le l h)
+pub among_any : (l : List ℕ) (t : ℕ) → list_any (λ y. eqb y t) l ≡ among l t
+unfolding among
+among_any [] t = refl
+among_any (u ∷ l) t = ap (λ y. eqb u t || y) (among_any l t) ∙ ap (λ y. y || among l t) (same_test u t)

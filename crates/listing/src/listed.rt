@@ -4,7 +4,7 @@ ghost use Rattle.layout.specs.State.{among, type_listed, fifth_listed};
 ghost use Rattle.spots.specs.Heads.{kind_for, fifth_for};
 
 use dims::dim_listed;
-use spots::{Fifth, Kind};
+use spots::Kind;
 
 const NODE_TYPES: [u32; 3] = [0, 1, 2];
 
@@ -22,14 +22,7 @@ const FACINGS: [u32; 4] = [0, 2, 3, 4];
 fn is_in(list: &[u32], t: u32) -> bool
     ensures { result ≡ among list.now t }
 {
-    let mut i = 0;
-    while i < list.len() {
-        if t == list[i] {
-            return true;
-        }
-        i += 1;
-    }
-    false
+    list.contains(&t)
 }
 
 pub fn type_listed(kind: Kind, t: u32) -> bool
@@ -42,30 +35,13 @@ pub fn type_listed(kind: Kind, t: u32) -> bool
     }
 }
 
-fn element_listed(v: Fifth) -> bool
-    ensures { result ≡ fifth_listed (kind_for Kind.Cell) (fifth_for v) }
-{
-    match v {
-        Fifth::Absent => false,
-        Fifth::Given(e) => is_in(&ELEMENTS, e),
-    }
-}
-
-fn facing_listed(v: Fifth) -> bool
-    ensures { result ≡ fifth_listed (kind_for Kind.Face) (fifth_for v) }
-{
-    match v {
-        Fifth::Absent => false,
-        Fifth::Given(e) => is_in(&FACINGS, e),
-    }
-}
-
-pub fn fifth_listed(kind: Kind, v: Fifth) -> bool
+// Cells and faces must have a fifth word, nodes need not.
+pub fn fifth_listed(kind: Kind, v: Option<u32>) -> bool
     ensures { result ≡ fifth_listed (kind_for kind) (fifth_for v) }
 {
     match kind {
         Kind::Node => dim_listed(v),
-        Kind::Cell => element_listed(v),
-        Kind::Face => facing_listed(v),
+        Kind::Cell => v.is_some_and(|e| is_in(&ELEMENTS, e)),
+        Kind::Face => v.is_some_and(|e| is_in(&FACINGS, e)),
     }
 }

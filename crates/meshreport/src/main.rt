@@ -6,7 +6,7 @@ ghost use Rattle.std.specs.Prelude.{◌≤◌, length, IfOk, IfSome};
 use std::io;
 use std::io::Read;
 
-// Reads until the buffer is full or the input ends, and answers how many bytes there are.
+// Reads until the buffer is full or the input ends, and answers how many bytes there are. The library's `read_to_end` wants a `Vec`, and this program allocates nothing.
 fn read_full(input: &mut impl Read, text: &mut [u8]) -> io::Result<usize>
     ensures { IfOk result (λ n. n ≤ length text.new) }
 {

@@ -1,4 +1,3 @@
-mod Leaves
 mod OfNodes
 mod Marked
 pub mod Only

@@ -3,8 +3,9 @@ use Prim.Native.Nat.{ℕ, ◌+◌, ◌*◌, ◌^◌, ◌≤◌, ◌<◌}
 use native.Mathlib.Omega.{arith}
 use mathlib.Core.Path.{◌≡◌, refl, sym, ap, ◌∙◌}
 use mathlib.Core.List.{List, [], ◌∷◌}
-use mathlib.Core.Bool.{Bool, false, ◌&&◌, ◌||◌, or-false}
+use mathlib.Core.Bool.{Bool, false, ◌&&◌, or-false}
 use borrow.Author.Tests.{leb-true, le-ltb}
+use Rattle.std.specs.List.{list_any}
 use lib.Dec.{eqb, ltb, leb}
 use lib.ListN.{length, take, get_or}
 use Rattle.facts.proofs.Branch.{either}
@@ -16,28 +17,7 @@ use Rattle.faults.specs.Faults.{looked_at, positions_of, wrong_count, wrong_node
 use Rattle.faults.specs.Sides.{one}
 use Rattle.faults.specs.Marked.{four, kind_marks, node_part}
 use Rattle.faults.proofs.Marked.{packed_none, cut, kind_none, kind_small}
-use Rattle.nodefaults.proofs.OfNodes.{by_four}
-
--- an equal one at an earlier place, over the four words of a row
-pub again_cut : (l : List ℕ) → length l ≡ 4 → (m : ℕ) → m ≤ 4
-    → four
-    (ltb 0 m && false)
-    (ltb 1 m && eqb (get_or l 0 0) (get_or l 1 0))
-    (ltb 2 m && (eqb (get_or l 0 0) (get_or l 2 0) || eqb (get_or l 1 0) (get_or l 2 0)))
-    (ltb 3 m && (eqb (get_or l 0 0) (get_or l 3 0) || (eqb (get_or l 1 0) (get_or l 3 0) || eqb (get_or l 2 0) (get_or l 3 0))))
-    ≡ packed 2 (λ p. one (is_in (get_or l p 0) (take p l))) 0 m
-unfolding is_in
-again_cut l e m h =
-    by_four (λ l. four
-    (ltb 0 m && false)
-    (ltb 1 m && eqb (get_or l 0 0) (get_or l 1 0))
-    (ltb 2 m && (eqb (get_or l 0 0) (get_or l 2 0) || eqb (get_or l 1 0) (get_or l 2 0)))
-    (ltb 3 m && (eqb (get_or l 0 0) (get_or l 3 0) || (eqb (get_or l 1 0) (get_or l 3 0) || eqb (get_or l 2 0) (get_or l 3 0))))
-    ≡ packed 2 (λ p. one (is_in (get_or l p 0) (take p l))) 0 m)
-    (λ a b c d.
-    let f = cut (λ p. is_in (get_or (a ∷ b ∷ c ∷ d ∷ []) p 0) (take p (a ∷ b ∷ c ∷ d ∷ []))) m h in
-    rw (or-false (eqb a b), or-false (eqb b c), or-false (eqb c d)) at f)
-    l e
+use Rattle.nodefaults.proofs.OfNodes.{front}
 
 -- ---- the kinds of a face
 module _ (n : ℕ) (frame : Frame) (face : Face) where
@@ -87,13 +67,6 @@ pub cut_read : (g : ℕ → Bool) (m : ℕ) {r : ℕ} {a b c d : Bool} → m ≤
     → r ≡ four (ltb 0 m && a) (ltb 1 m && b) (ltb 2 m && c) (ltb 3 m && d) → r ≡ packed 2 (λ p. one (g p)) 0 m
 cut_read g m h p q s t e = e ∙ rw (p, q, s, t) (cut g m h)
 
-pub again_read : (l : List ℕ) (m : ℕ) {r : ℕ} {x y : Bool} → length l ≡ 4 → m ≤ 4
-    → x ≡ (eqb (get_or l 0 0) (get_or l 2 0) || eqb (get_or l 1 0) (get_or l 2 0))
-    → y ≡ (eqb (get_or l 0 0) (get_or l 3 0) || (eqb (get_or l 1 0) (get_or l 3 0) || eqb (get_or l 2 0) (get_or l 3 0)))
-    → r ≡ four (ltb 0 m && false) (ltb 1 m && eqb (get_or l 0 0) (get_or l 1 0)) (ltb 2 m && x) (ltb 3 m && y)
-    → r ≡ packed 2 (λ p. one (is_in (get_or l p 0) (take p l))) 0 m
-again_read l m e h p q s = s ∙ rw (p, q) (again_cut l e m h)
-
 -- with less than three looked at, it does not matter what is said of the third and the fourth
 few_same : (m : ℕ) (a b c d : Bool) → m < 3 → four a b (ltb 2 m && false) (ltb 3 m && false) ≡ four a b (ltb 2 m && c) (ltb 3 m && d)
 few_same m a b c d h = rw (le-ltb 2 m (omega arith), le-ltb 3 m (omega arith))
@@ -102,10 +75,26 @@ pub cut_few : (g : ℕ → Bool) (m : ℕ) {r : ℕ} {a b : Bool} → m < 3 → 
     → r ≡ four (ltb 0 m && a) (ltb 1 m && b) (ltb 2 m && false) (ltb 3 m && false) → r ≡ packed 2 (λ p. one (g p)) 0 m
 cut_few g m {a = a} {b = b} h p q e = cut_read g m (omega arith) p q refl refl (e ∙ few_same m (ltb 0 m && a) (ltb 1 m && b) (g 2) (g 3) h)
 
-pub again_few : (l : List ℕ) (m : ℕ) {r : ℕ} → length l ≡ 4 → m < 3
-    → r ≡ four (ltb 0 m && false) (ltb 1 m && eqb (get_or l 0 0) (get_or l 1 0)) (ltb 2 m && false) (ltb 3 m && false)
-    → r ≡ packed 2 (λ p. one (is_in (get_or l p 0) (take p l))) 0 m
-again_few l m n h e = again_read l m n (omega arith) refl refl (e ∙ few_same m (ltb 0 m && false) (ltb 1 m && eqb (get_or l 0 0) (get_or l 1 0)) _ _ h)
+-- whether a word of a row of four stands before its place too
+module _ (l : List ℕ) (h : length l ≡ 4) where
+  abbrev pub again : ℕ → Bool
+  again p = is_in (get_or l p 0) (take p l)
+
+  pub again_0 : false ≡ again 0
+  unfolding is_in
+  again_0 = refl
+
+  pub again_1 : eqb (get_or l 0 0) (get_or l 1 0) ≡ again 1
+  unfolding is_in
+  again_1 = rw ((front l h).0, or-false)
+
+  pub again_2 : list_any (λ y. eqb y (get_or l 2 0)) (get_or l 0 0 ∷ get_or l 1 0 ∷ []) ≡ again 2
+  unfolding is_in
+  again_2 = rw (front l h).1
+
+  pub again_3 : list_any (λ y. eqb y (get_or l 3 0)) (get_or l 0 0 ∷ get_or l 1 0 ∷ get_or l 2 0 ∷ []) ≡ again 3
+  unfolding is_in
+  again_3 = rw (front l h).2
 
 pub looked_few : (count : ℕ) {m : ℕ} → m ≡ looked_at 4 count → m ≤ 4
 unfolding looked_at

@@ -1,8 +1,7 @@
 -- The faults of a face's count and nodes, over the four words of its row. Assumes nothing.
--- neither of two tests
-use Prim.Native.Nat.{ℕ, zero, suc, ◌≤◌}
+use Prim.Native.Nat.{ℕ, zero, suc, ◌+◌, ◌≤◌}
 use native.Mathlib.Omega.{arith}
-use mathlib.Core.Path.{◌≡◌, sym, ◌∙◌}
+use mathlib.Core.Path.{◌≡◌, refl, sym, ap, ◌∙◌}
 use mathlib.Core.List.{List, [], ◌∷◌}
 use mathlib.Core.Bool.{Bool, true, false, not, ◌||◌, or-false}
 use borrow.Author.Tests.{eq-eqb, ne_eqb, eqb-true, eqb-false, le-leb, leb-true, not-false}
@@ -15,14 +14,17 @@ use Rattle.faults.specs.declared.Frame.{Frame}
 use Rattle.faults.specs.Over.{any_of}
 use Rattle.faults.specs.Faults.{looked_at, positions_of, wrong_count, wrong_node, is_in, has_fault, any_of_kind, node_fault}
 
--- something of a list of four
-pub by_four : (P : List ℕ → Type 0) → ((a b c d : ℕ) → P (a ∷ b ∷ c ∷ d ∷ [])) → (l : List ℕ) → length l ≡ 4 → P l
-by_four P f [] h = absurd (omega arith)
-by_four P f (a ∷ []) h = absurd (omega arith)
-by_four P f (a ∷ b ∷ []) h = absurd (omega arith)
-by_four P f (a ∷ b ∷ c ∷ []) h = absurd (omega arith)
-by_four P f (a ∷ b ∷ c ∷ d ∷ []) h = f a b c d
-by_four P f (a ∷ b ∷ c ∷ d ∷ e ∷ l) h = absurd (omega arith)
+-- two tests, asked of each place together
+any_both : (s t : ℕ → Bool) (i n : ℕ) → any_of (λ p. s p || t p) i n ≡ (any_of s i n || any_of t i n)
+unfolding any_of
+any_both s t i zero = refl
+any_both s t i (suc n) = rw (any_both s t (i + 1) n) (crossed (s i) (t i) (any_of s (i + 1) n) (any_of t (i + 1) n))
+  where
+    crossed : (a b c d : Bool) → ((a || b) || (c || d)) ≡ ((a || c) || (b || d))
+    crossed true b c d = refl
+    crossed false true true d = refl
+    crossed false false true d = refl
+    crossed false b false d = refl
 
 module _ (n dim count : ℕ) (h : wrong_count n dim count ≡ false) where
   pub flat_count : dim ≡ 2 → count ≡ 2
@@ -45,153 +47,129 @@ module _ (n dim count : ℕ) (h : wrong_count n dim count ≡ false) where
       in
       (b.0, rw (le-leb 2 count b.0, le-leb count n b.1, looked_at))
 
-module _ (dim nodes count : ℕ) where
-  abbrev node_test : List ℕ → ℕ → Bool
-  node_test l p = wrong_node nodes (get_or l p 0)
-
-  abbrev again_test : List ℕ → ℕ → Bool
-  again_test l p = is_in (get_or l p 0) (take p l)
-
-  abbrev within : List ℕ → Bool
-  within l = wrong_count 4 dim count || (any_of (node_test l) 0 (looked_at 4 count) || any_of (again_test l) 0 (looked_at 4 count))
-
-  abbrev pair_test : List ℕ → Bool
-  pair_test l = eqb (get_or l 0 0) (get_or l 1 0) || (node_test l 0 || node_test l 1)
-
-  abbrev third_test : List ℕ → Bool
-  third_test l = node_test l 2 || (eqb (get_or l 0 0) (get_or l 2 0) || eqb (get_or l 1 0) (get_or l 2 0))
-
-  abbrev fourth_test : List ℕ → Bool
-  fourth_test l = node_test l 3 || (eqb (get_or l 0 0) (get_or l 3 0) || (eqb (get_or l 1 0) (get_or l 3 0) || eqb (get_or l 2 0) (get_or l 3 0)))
+-- a test of each place, of which there are four
+module _ (dim count : ℕ) (t : ℕ → Bool) where
+  abbrev within : Bool
+  within = wrong_count 4 dim count || any_of t 0 (looked_at 4 count)
 
   -- with a right count all of it is looked at
-  found : (l : List ℕ) → (wrong_count 4 dim count ≡ false → (any_of (node_test l) 0 count || any_of (again_test l) 0 count) ≡ true) → true ≡ within l
-  found l f =
+  found : (wrong_count 4 dim count ≡ false → any_of t 0 count ≡ true) → true ≡ within
+  found f =
       split (wrong_count 4 dim count)
-      (λ t. rw t)
-      (λ t. let s = looked_all 4 dim count t (omega arith) in rw (t, s.1) (sym (f t)))
+      (λ w. rw w)
+      (λ w. let s = looked_all 4 dim count w (omega arith) in rw (w, s.1) (sym (f w)))
 
-  module _ (a b c d : ℕ) where
-    abbrev row : List ℕ
-    row = a ∷ b ∷ c ∷ d ∷ []
+  first : (n : ℕ) → 2 ≤ n → (t 0 || t 1) ≡ true → any_of t 0 n ≡ true
+  unfolding any_of
+  first zero h e = absurd (omega arith)
+  first (suc zero) h e = absurd (omega arith)
+  first (suc (suc n)) h e = either_of (or_split (t 0) (t 1) e) (λ a. or_left _ a) (λ b. or_right (t 0) (or_left _ b))
 
-    in_pair : (n : ℕ) → 2 ≤ n → pair_test row ≡ true → (any_of (node_test row) 0 n || any_of (again_test row) 0 n) ≡ true
-    unfolding any_of is_in
-    in_pair zero h t = absurd (omega arith)
-    in_pair (suc zero) h t = absurd (omega arith)
-    in_pair (suc (suc k)) h t =
-        either_of (or_split (eqb a b) (wrong_node nodes a || wrong_node nodes b) t)
-        (λ x. or_right (any_of (node_test row) 0 (suc (suc k))) (or_left _ (or_left false x)))
-        (λ y. either_of (or_split (wrong_node nodes a) (wrong_node nodes b) y)
-        (λ x. or_left _ (or_left _ x))
-        (λ x. or_left _ (or_right (wrong_node nodes a) (or_left _ x))))
+  third : (n : ℕ) → 3 ≤ n → t 2 ≡ true → any_of t 0 n ≡ true
+  unfolding any_of
+  third zero h e = absurd (omega arith)
+  third (suc zero) h e = absurd (omega arith)
+  third (suc (suc zero)) h e = absurd (omega arith)
+  third (suc (suc (suc n))) h e = or_right (t 0) (or_right (t 1) (or_left _ e))
 
-    in_third : (n : ℕ) → 3 ≤ n → third_test row ≡ true → (any_of (node_test row) 0 n || any_of (again_test row) 0 n) ≡ true
-    unfolding any_of is_in
-    in_third zero h t = absurd (omega arith)
-    in_third (suc zero) h t = absurd (omega arith)
-    in_third (suc (suc zero)) h t = absurd (omega arith)
-    in_third (suc (suc (suc k))) h t =
-        either_of (or_split (wrong_node nodes c) (eqb a c || eqb b c) t)
-        (λ x. or_left _ (or_right (wrong_node nodes a) (or_right (wrong_node nodes b) (or_left {a = wrong_node nodes c} _ x))))
-        (λ y.
-        or_right (any_of (node_test row) 0 (suc (suc (suc k))))
-        (or_right (eqb a b || false) (or_left {a = eqb a c || (eqb b c || false)} _ (rw (or-false (eqb b c)) y))))
+  -- the ways through the code
+  of_pair : (t 0 || t 1) ≡ true → true ≡ within
+  of_pair e = found (λ w. first count (looked_all 4 dim count w (omega arith)).0 e)
 
-    row_pair : pair_test row ≡ true → true ≡ within row
-    row_pair t = found row (λ z. in_pair count (looked_all 4 dim count z (omega arith)).0 t)
+  of_third : (dim ≡ 2 → ⊥) → t 2 ≡ true → true ≡ within
+  of_third d e = found (λ w. third count (solid_count 4 dim count w d).0 e)
 
-    row_third : (dim ≡ 2 → ⊥) → third_test row ≡ true → true ≡ within row
-    row_third e t = found row (λ z. in_third count (solid_count 4 dim count z e).0 t)
-
-    row_flat : pair_test row ≡ false → dim ≡ 2 → not (eqb count 2) ≡ within row
-    unfolding any_of is_in wrong_count looked_at
-    row_flat t e =
-        let p = or_none (eqb a b) (wrong_node nodes a || wrong_node nodes b) t in
-        let q = or_none (wrong_node nodes a) (wrong_node nodes b) p.1 in
-        flat p.0 q.0 q.1
-      where
-        flat : eqb a b ≡ false → wrong_node nodes a ≡ false → wrong_node nodes b ≡ false → not (eqb count 2) ≡ within row
-        flat x y z =
-            split (eqb count 2)
-            (λ u. rw (eqb-true count 2 u, e, y, z, x))
-            (λ u. rw (u, eq-eqb dim 2 e, u, wrong_count))
-
-    row_3 : pair_test row ≡ false → (dim ≡ 2 → ⊥) → third_test row ≡ false → count ≡ 3 → false ≡ within row
-    unfolding any_of is_in wrong_count looked_at
-    row_3 t e u k =
-        let p = or_none (eqb a b) (wrong_node nodes a || wrong_node nodes b) t in
-        let q = or_none (wrong_node nodes a) (wrong_node nodes b) p.1 in
-        let v = or_none (wrong_node nodes c) (eqb a c || eqb b c) u in
-        let w = or_none (eqb a c) (eqb b c) v.1 in
-        three p.0 q.0 q.1 v.0 w.0 w.1
-      where
-        three : eqb a b ≡ false → wrong_node nodes a ≡ false → wrong_node nodes b ≡ false → wrong_node nodes c ≡ false → eqb a c ≡ false → eqb b c ≡ false
-            → false ≡ within row
-        three x y z f g h = rw (ne_eqb dim 2 e, wrong_count, k, y, z, f, x, g, h)
-
-    row_4 : pair_test row ≡ false → (dim ≡ 2 → ⊥) → third_test row ≡ false → count ≡ 4 → fourth_test row ≡ within row
-    unfolding any_of is_in wrong_count looked_at
-    row_4 t e u k =
-        let p = or_none (eqb a b) (wrong_node nodes a || wrong_node nodes b) t in
-        let q = or_none (wrong_node nodes a) (wrong_node nodes b) p.1 in
-        let v = or_none (wrong_node nodes c) (eqb a c || eqb b c) u in
-        let w = or_none (eqb a c) (eqb b c) v.1 in
-        more p.0 q.0 q.1 v.0 w.0 w.1
-      where
-        more : eqb a b ≡ false → wrong_node nodes a ≡ false → wrong_node nodes b ≡ false → wrong_node nodes c ≡ false → eqb a c ≡ false → eqb b c ≡ false
-            → fourth_test row ≡ within row
-        more x y z f g h = rw (ne_eqb dim 2 e, wrong_count, k, y, z, f, x, g, h, or-false (wrong_node nodes d), or-false (eqb c d), or-false (eqb a d || (eqb b d || eqb c d)))
-
-  row_other : (l : List ℕ) → (dim ≡ 2 → ⊥) → (count ≡ 3 → ⊥) → (count ≡ 4 → ⊥) → true ≡ within l
-  row_other l e h k =
-      split (wrong_count 4 dim count)
-      (λ t. rw t)
-      (λ t. let s = solid_count 4 dim count t e in absurd (k (last s.0 s.1)))
+  of_other : (dim ≡ 2 → ⊥) → (count ≡ 3 → ⊥) → (count ≡ 4 → ⊥) → true ≡ within
+  of_other d h k = split (wrong_count 4 dim count) (λ w. rw w) (λ w. let s = solid_count 4 dim count w d in absurd (k (last s.0 s.1)))
     where
       last : 3 ≤ count → count ≤ 4 → count ≡ 4
       last p q = omega arith
 
--- the ways through the code
+  module _ (pair : (t 0 || t 1) ≡ false) where
+    abbrev a : t 0 ≡ false
+    a = (or_none (t 0) (t 1) pair).0
+
+    abbrev b : t 1 ≡ false
+    b = (or_none (t 0) (t 1) pair).1
+
+    of_flat : dim ≡ 2 → not (eqb count 2) ≡ within
+    unfolding any_of wrong_count looked_at
+    of_flat e = split (eqb count 2) (λ u. rw (eqb-true count 2 u, e, a, b)) (λ u. rw (u, eq-eqb dim 2 e, u, wrong_count))
+
+    of_3 : (dim ≡ 2 → ⊥) → t 2 ≡ false → count ≡ 3 → false ≡ within
+    unfolding any_of wrong_count looked_at
+    of_3 d c k = rw (ne_eqb dim 2 d, wrong_count, k, a, b, c)
+
+    of_4 : (dim ≡ 2 → ⊥) → t 2 ≡ false → count ≡ 4 → t 3 ≡ within
+    unfolding any_of wrong_count looked_at
+    of_4 d c k = rw (ne_eqb dim 2 d, wrong_count, k, a, b, c, or-false (t 3))
+
+-- the first words of a row
+pub front : (l : List ℕ) → length l ≡ 4
+    → (take 1 l ≡ get_or l 0 0 ∷ []) × (take 2 l ≡ get_or l 0 0 ∷ get_or l 1 0 ∷ []) × (take 3 l ≡ get_or l 0 0 ∷ get_or l 1 0 ∷ get_or l 2 0 ∷ [])
+front [] h = absurd (omega arith)
+front (a ∷ []) h = absurd (omega arith)
+front (a ∷ b ∷ []) h = absurd (omega arith)
+front (a ∷ b ∷ c ∷ []) h = absurd (omega arith)
+front (a ∷ b ∷ c ∷ d ∷ l) h = (refl, refl, refl)
+
+-- the tests of the first two places, in another order
+paired : (x y z : Bool) → (z || (x || y)) ≡ ((x || false) || (y || (z || false)))
+paired true y true = refl
+paired true y false = refl
+paired false true true = refl
+paired false true false = refl
+paired false false true = refl
+paired false false false = refl
+
 module _ (frame : Frame) (face : Face) (h : length face.nodes ≡ 4) where
-  abbrev dim : ℕ
-  dim = frame.dim
+  abbrev at : ℕ → ℕ
+  at p = get_or face.nodes p 0
 
-  abbrev nodes : ℕ
-  nodes = frame.nodes
+  abbrev wrong : ℕ → Bool
+  wrong p = wrong_node frame.nodes (at p)
 
-  abbrev count : ℕ
-  count = face.count
+  abbrev test : ℕ → Bool
+  test p = wrong p || is_in (at p) (take p face.nodes)
 
-  node_is : within dim nodes count face.nodes ≡ node_fault 4 frame face
+  kinds : (wrong_count 4 frame.dim face.count || (any_of wrong 0 (looked_at 4 face.count) || any_of (λ p. is_in (at p) (take p face.nodes)) 0 (looked_at 4 face.count)))
+      ≡ node_fault 4 frame face
   unfolding node_fault any_of any_of_kind positions_of has_fault
-  node_is = simp or-false
+  kinds = simp or-false
 
-  pub nodes_pair : pair_test dim nodes count face.nodes ≡ true → true ≡ node_fault 4 frame face
-  nodes_pair t =
-      by_four (λ l. pair_test dim nodes count l ≡ true → true ≡ within dim nodes count l) (row_pair dim nodes count) face.nodes h t ∙ node_is
+  node_is : within frame.dim face.count test ≡ node_fault 4 frame face
+  node_is =
+      ap (λ (b : Bool). wrong_count 4 frame.dim face.count || b) (any_both wrong (λ p. is_in (at p) (take p face.nodes)) 0 (looked_at 4 face.count)) ∙ kinds
 
-  pub nodes_flat : pair_test dim nodes count face.nodes ≡ false → dim ≡ 2 → not (eqb count 2) ≡ node_fault 4 frame face
-  nodes_flat t e =
-      by_four (λ l. pair_test dim nodes count l ≡ false → dim ≡ 2 → not (eqb count 2) ≡ within dim nodes count l) (row_flat dim nodes count) face.nodes h t e ∙ node_is
+  abbrev pair : Bool
+  pair = eqb (at 0) (at 1) || (wrong 0 || wrong 1)
 
-  pub nodes_third : (dim ≡ 2 → ⊥) → third_test dim nodes count face.nodes ≡ true → true ≡ node_fault 4 frame face
-  nodes_third e t =
-      by_four (λ l. (dim ≡ 2 → ⊥) → third_test dim nodes count l ≡ true → true ≡ within dim nodes count l) (row_third dim nodes count) face.nodes h e t ∙ node_is
+  pair_is : pair ≡ (test 0 || test 1)
+  unfolding is_in
+  pair_is = rw (front face.nodes h).0 (paired (wrong 0) (wrong 1) (eqb (at 0) (at 1)))
 
-  pub nodes_3 : pair_test dim nodes count face.nodes ≡ false → (dim ≡ 2 → ⊥) → third_test dim nodes count face.nodes ≡ false → count ≡ 3
-      → false ≡ node_fault 4 frame face
-  nodes_3 t e u k =
-      by_four (λ l. pair_test dim nodes count l ≡ false → (dim ≡ 2 → ⊥) → third_test dim nodes count l ≡ false → count ≡ 3 → false ≡ within dim nodes count l)
-      (row_3 dim nodes count) face.nodes h t e u k
-      ∙ node_is
+  third_is : (wrong 2 || is_in (at 2) (at 0 ∷ at 1 ∷ [])) ≡ test 2
+  third_is = rw (front face.nodes h).1
 
-  pub nodes_4 : pair_test dim nodes count face.nodes ≡ false → (dim ≡ 2 → ⊥) → third_test dim nodes count face.nodes ≡ false → count ≡ 4
-      → fourth_test dim nodes count face.nodes ≡ node_fault 4 frame face
-  nodes_4 t e u k =
-      by_four (λ l. pair_test dim nodes count l ≡ false → (dim ≡ 2 → ⊥) → third_test dim nodes count l ≡ false → count ≡ 4 → fourth_test dim nodes count l ≡ within dim nodes count l)
-      (row_4 dim nodes count) face.nodes h t e u k
-      ∙ node_is
+  fourth_is : (wrong 3 || is_in (at 3) (at 0 ∷ at 1 ∷ at 2 ∷ [])) ≡ test 3
+  fourth_is = rw (front face.nodes h).2
 
-  pub nodes_other : (dim ≡ 2 → ⊥) → (count ≡ 3 → ⊥) → (count ≡ 4 → ⊥) → true ≡ node_fault 4 frame face
-  nodes_other e p q = row_other dim nodes count face.nodes e p q ∙ node_is
+  -- the ways through the code
+  pub nodes_pair : pair ≡ true → true ≡ node_fault 4 frame face
+  nodes_pair e = of_pair _ _ test (sym pair_is ∙ e) ∙ node_is
+
+  pub nodes_flat : pair ≡ false → frame.dim ≡ 2 → not (eqb face.count 2) ≡ node_fault 4 frame face
+  nodes_flat e d = of_flat _ _ test (sym pair_is ∙ e) d ∙ node_is
+
+  pub nodes_third : (frame.dim ≡ 2 → ⊥) → (wrong 2 || is_in (at 2) (at 0 ∷ at 1 ∷ [])) ≡ true → true ≡ node_fault 4 frame face
+  nodes_third d e = of_third _ _ test d (sym third_is ∙ e) ∙ node_is
+
+  pub nodes_3 : pair ≡ false → (frame.dim ≡ 2 → ⊥) → (wrong 2 || is_in (at 2) (at 0 ∷ at 1 ∷ [])) ≡ false → face.count ≡ 3 → false ≡ node_fault 4 frame face
+  nodes_3 e d f k = of_3 _ _ test (sym pair_is ∙ e) d (sym third_is ∙ f) k ∙ node_is
+
+  pub nodes_4 : pair ≡ false → (frame.dim ≡ 2 → ⊥) → (wrong 2 || is_in (at 2) (at 0 ∷ at 1 ∷ [])) ≡ false → face.count ≡ 4
+      → (wrong 3 || is_in (at 3) (at 0 ∷ at 1 ∷ at 2 ∷ [])) ≡ node_fault 4 frame face
+  nodes_4 e d f k = fourth_is ∙ of_4 _ _ test (sym pair_is ∙ e) d (sym third_is ∙ f) k ∙ node_is
+
+  pub nodes_other : (frame.dim ≡ 2 → ⊥) → (face.count ≡ 3 → ⊥) → (face.count ≡ 4 → ⊥) → true ≡ node_fault 4 frame face
+  nodes_other d p q = of_other _ _ test d p q ∙ node_is

@@ -1,55 +1,30 @@
 // Whether a face has any fault of its nodes. A hot test of the audit, without a loop.
-ghost use Rattle.std.specs.Prelude.{◌≡◌, ◌||◌, eqb};
+ghost use Rattle.std.specs.Prelude.{◌≡◌, ◌||◌, eqb, [], ◌∷◌};
 ghost use Rattle.mesh.specs.Rows.{places};
-ghost use Rattle.faults.specs.Faults.{wrong_node, node_fault};
+ghost use Rattle.faults.specs.Faults.{wrong_node, is_in, node_fault};
 
 use super::faces::wrong_node;
 use faults::Frame;
 use mesh::Face;
 
-pub(crate) fn is_one_of_two(a: u32, b: u32, x: u32) -> bool
-    ensures { result ≡ (eqb a x || eqb b x) }
-{
-    a == x || b == x
-}
-
-pub(crate) fn is_one_of_three(a: u32, b: u32, c: u32, x: u32) -> bool
-    ensures { result ≡ (eqb a x || (eqb b x || eqb c x)) }
-{
-    if a == x {
-        return true;
-    }
-    is_one_of_two(b, c, x)
-}
-
 fn wrong_pair(nodes: u32, a: u32, b: u32) -> bool
     ensures { result ≡ (eqb a b || (wrong_node nodes a || wrong_node nodes b)) }
 {
-    if a == b {
-        return true;
-    }
-    if wrong_node(nodes, a) {
-        return true;
-    }
-    wrong_node(nodes, b)
+    a == b || wrong_node(nodes, a) || wrong_node(nodes, b)
 }
 
+#[tactic(auto, unfolding(faults::specs::Faults::is_in))]
 fn wrong_third(nodes: u32, a: u32, b: u32, c: u32) -> bool
-    ensures { result ≡ (wrong_node nodes c || (eqb a c || eqb b c)) }
+    ensures { result ≡ (wrong_node nodes c || is_in c (a ∷ b ∷ [])) }
 {
-    if wrong_node(nodes, c) {
-        return true;
-    }
-    is_one_of_two(a, b, c)
+    wrong_node(nodes, c) || [a, b].contains(&c)
 }
 
+#[tactic(auto, unfolding(faults::specs::Faults::is_in))]
 fn wrong_fourth(nodes: u32, a: u32, b: u32, c: u32, d: u32) -> bool
-    ensures { result ≡ (wrong_node nodes d || (eqb a d || (eqb b d || eqb c d))) }
+    ensures { result ≡ (wrong_node nodes d || is_in d (a ∷ b ∷ c ∷ [])) }
 {
-    if wrong_node(nodes, d) {
-        return true;
-    }
-    is_one_of_three(a, b, c, d)
+    wrong_node(nodes, d) || [a, b, c].contains(&d)
 }
 
 // Whether the face has a fault of the kinds 1 to 3. With a wrong count it has one anyway, so it does not matter then which nodes are looked at.

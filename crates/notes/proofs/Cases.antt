@@ -1,23 +1,15 @@
 -- Closed cases of the functions that only our own crates call: the right answer, and what a wrong program would have answered there. Assumes nothing.
 use mathlib.Core.Path.{◌≡◌, refl}
 use mathlib.Core.List.{[], ◌∷◌}
-use mathlib.Core.Bool.{true, false}
-use Rattle.spots.specs.declared.Fifth.{Fifth}
+use Rattle.std.specs.Prelude.{Some, None}
 use Rattle.spots.specs.declared.Kind.{Kind}
 use Rattle.sofar.specs.declared.State.{State}
 use Rattle.notes.specs.declared.note.Met.{Met}
-use Rattle.notes.specs.Noting.{with_dim, note_state, note_place}
+use Rattle.notes.specs.Noting.{note_state, note_place}
 
 -- behind "(2 2)(10 (0 1 4 0))(10 (1 1 2 1)(0 0 1 0))"
 abbrev before : State
-before =
-    record {
-      dim = 2;
-      nodes = record { declared = true; total = 4 };
-      cells = record { declared = false; total = 0 };
-      faces = record { declared = false; total = 0 };
-      zones = 1;
-    }
+before = record { dim = 2; nodes = Some 4; cells = None; faces = None; zones = 1 }
 
 -- "(10 (1 3 4 1)", from 42 on
 abbrev met : Met
@@ -28,13 +20,12 @@ met =
       first = record { value = 3; at = 49 };
       last = record { value = 4; at = 51 };
       ztype = record { value = 1; at = 53 };
-      fifth = Fifth.Absent;
-      place = 0;
+      fifth = None;
       end = 54;
     })
 
 -- `noted`: a regular section not counted
-noted : ((note_state before met).zones ≡ 2) × ((with_dim before 2 before.zones).zones ≡ 1)
+noted : ((note_state before met).zones ≡ 2) × ((note_state before (Met.Dim 2)).zones ≡ 1)
 noted = (refl, refl)
 
 -- `keep`: every place kept as the first

@@ -1,4 +1,5 @@
 -- Hexadecimal digits at the start of some bytes: that they are the number of the word that they make. Assumes nothing.
+use Rattle.std.specs.Prelude.{Some}
 use Prim.Native.Nat.{ℕ, suc, zero, ◌+◌, ◌≤◌, ◌<◌}
 use native.Mathlib.Omega.{arith}
 use mathlib.Core.Path.{◌≡◌, sym, ap, subst, ◌∙◌}
@@ -12,7 +13,6 @@ use Rattle.digits.specs.declared.quick.Hexes.{Hexes}
 use Rattle.digits.specs.Digits.{within, digit_of, Digits, digits_in, Figures}
 use Rattle.digits.specs.Hexes.{hexes_by, hexes_of}
 use Rattle.digits.proofs.Digits.{within_is, Run, digits_in_part, digits_in_exact, Begins, NoDigit}
-use Rattle.numbers.specs.declared.whole.Whole.{Whole}
 use Rattle.numbers.specs.Whole.{hexadecimal_of}
 use Rattle.numbers.proofs.Wholes.{whole_of_exact, whole_of_exactly}
 
@@ -23,7 +23,7 @@ figure_at_lem (b ∷ run) rest (suc i) f h = figure_at_lem run rest i f.1 (omega
 
 pub record Worded (w : List ℕ) (h : Hexes) : Type 0 where
   pub within : h.count ≤ length w
-  pub number : hexadecimal_of (take h.count w) ≡ Whole.Is h.value
+  pub number : hexadecimal_of (take h.count w) ≡ Some h.value
   pub digit : (i : ℕ) → i < h.count → digit_of (get_or w i 0) < 16
 
 run_worded : (w : List ℕ) (d : Digits) → Run 16 w 0 0 d → 1 ≤ d.count → d.count ≤ 8 → Worded w (hexes_by d)
@@ -32,7 +32,7 @@ run_worded w d r low high =
     let word : take d.count w ≡ r.run = ap (λ n. take n w) long ∙ ap (λ l. take (length r.run) l) r.parted ∙ take-append_seam r.run d.rest in
     record {
       within = omega (arith, long, ap length r.parted, length-append r.run d.rest);
-      number = ap (λ l. hexadecimal_of l) word ∙ whole_of_exact 16 8 r.run r.figures (omega (arith, long, low)) (omega (arith, long, high)) ∙ ap Whole.Is (sym r.value);
+      number = ap (λ l. hexadecimal_of l) word ∙ whole_of_exact 16 8 r.run r.figures (omega (arith, long, low)) (omega (arith, long, high)) ∙ ap Some (sym r.value);
       digit = λ i h. subst (λ l. digit_of (get_or l i 0) < 16) (sym r.parted) (figure_at_lem r.run d.rest i r.figures (omega (arith, h, long)));
     }
 
@@ -48,7 +48,7 @@ hexes_worded w h =
     (λ p. absurd (let e : hexes_of w ≡ record { value = 0; count = 0 } = rw (p, hexes_of) in omega (arith, h, ap (λ (y : Hexes). y.count) e)))
 
 -- a hexadecimal word at the start of the bytes is what is read
-pub hexes_all : (w rest : List ℕ) (v : ℕ) → hexadecimal_of w ≡ Whole.Is v → Begins (NoDigit 16) rest → length (w ++ rest) ≤ 8 → hexes_of (w ++ rest) ≡ record { value = v; count = length w }
+pub hexes_all : (w rest : List ℕ) (v : ℕ) → hexadecimal_of w ≡ Some v → Begins (NoDigit 16) rest → length (w ++ rest) ≤ 8 → hexes_of (w ++ rest) ≡ record { value = v; count = length w }
 unfolding hexes_of
 hexes_all w rest v e b h =
     let is = (whole_of_exactly 16 8 w v).0 e in

@@ -1,26 +1,26 @@
 -- Closed cases of the functions that only our own crates call: the right answer, and what a wrong program would have answered there. Assumes nothing.
+use Rattle.std.specs.Prelude.{Some, None}
 use Prim.Native.Nat.{ℕ, suc, ◌-◌}
 use mathlib.Core.Path.{◌≡◌, refl}
 use mathlib.Core.Bool.{true, false}
 use Rattle.facts.specs.Text.{bytes}
 use Rattle.digits.specs.Digits.{within, digit_of, digits_in}
 use Rattle.numbers.specs.declared.sort.Sort.{Sort}
-use Rattle.numbers.specs.declared.whole.Whole.{Whole}
 use Rattle.numbers.specs.Bad.{bad_at}
 use Rattle.numbers.specs.Whole.{whole_of, hexadecimal_of, section_id_of, power_digits_of}
 
 -- `hexadecimal`: a whole number read as decimal
-hexadecimal : (hexadecimal_of (bytes "10") ≡ Whole.Is 16) × (whole_of 10 8 (bytes "10") ≡ Whole.Is 10)
+hexadecimal : (hexadecimal_of (bytes "10") ≡ Some 16) × (whole_of 10 8 (bytes "10") ≡ Some 10)
 unfolding digit_of digits_in whole_of
 hexadecimal = (refl, refl)
 
 -- `section_id`: an id read as hexadecimal
-section_id : (section_id_of (bytes "10") ≡ Whole.Is 10) × (whole_of 16 5 (bytes "10") ≡ Whole.Is 16)
+section_id : (section_id_of (bytes "10") ≡ Some 10) × (whole_of 16 5 (bytes "10") ≡ Some 16)
 unfolding digit_of digits_in whole_of
 section_id = (refl, refl)
 
 -- `power_digits`: a power of four digits taken
-power_digits : (power_digits_of (bytes "1000") ≡ Whole.Not) × (whole_of 10 4 (bytes "1000") ≡ Whole.Is 1000)
+power_digits : (power_digits_of (bytes "1000") ≡ None) × (whole_of 10 4 (bytes "1000") ≡ Some 1000)
 unfolding digit_of digits_in whole_of
 power_digits = (refl, refl)
 

@@ -8,4 +8,4 @@ mod whole;
 
 pub use digit::digit_of;
 pub use sort::{Sort, bad_at};
-pub use whole::{Whole, hexadecimal, power_digits, section_id};
+pub use whole::{hexadecimal, power_digits, section_id};

@@ -4,50 +4,41 @@ ghost use Rattle.numbers.specs.Whole.{whole_of, hexadecimal_of, section_id_of, p
 
 use super::digit::digit_of;
 
-#[derive(Clone, Copy)]
-pub enum Whole {
-    Is(u32),
-    Not,
-}
-
 // A word of 1 to `most` digits to the base.
-fn whole_of(w: &[u8], base: u32, most: usize) -> Whole
+fn whole_of(w: &[u8], base: u32, most: usize) -> Option<u32>
     requires { (0 < base) × (base ^ most ≤ 2 ^ 32) }
     ensures { result ≡ whole_of base most w.now }
 {
-    if w.len() < 1 {
-        return Whole::Not;
+    if w.is_empty() {
+        return None;
     }
     if most < w.len() {
-        return Whole::Not;
+        return None;
     }
     let mut v: u32 = 0;
-    let mut i = 0;
-    while i < w.len() {
-        let d = digit_of(w[i]);
-        if d < base {
-            v = v * base + d;
-            i += 1;
-        } else {
-            return Whole::Not;
+    for b in w {
+        let d = digit_of(*b);
+        if base <= d {
+            return None;
         }
+        v = v * base + d;
     }
-    Whole::Is(v)
+    Some(v)
 }
 
-pub fn hexadecimal(w: &[u8]) -> Whole
+pub fn hexadecimal(w: &[u8]) -> Option<u32>
     ensures { result ≡ hexadecimal_of w.now }
 {
     whole_of(w, 16, 8)
 }
 
-pub fn section_id(w: &[u8]) -> Whole
+pub fn section_id(w: &[u8]) -> Option<u32>
     ensures { result ≡ section_id_of w.now }
 {
     whole_of(w, 10, 5)
 }
 
-pub fn power_digits(w: &[u8]) -> Whole
+pub fn power_digits(w: &[u8]) -> Option<u32>
     ensures { result ≡ power_digits_of w.now }
 {
     whole_of(w, 10, 3)

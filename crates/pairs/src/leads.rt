@@ -4,41 +4,24 @@ ghost use Rattle.pairs.specs.Pairs.{leads_of};
 
 use super::window::window_end;
 use decimals::Decimal;
+use facts::Taken;
 use tokens::Cursor;
 
 // The decimal of a coordinate word, and the place behind it.
-#[derive(Clone, Copy)]
-pub enum Leads {
-    Is {
-        mantissa: i64,
-        exponent: i32,
-        next: usize,
-    },
-    Not,
-}
-
-pub fn quick_lead(s: &[u8], at: usize) -> Leads
+pub fn quick_lead(s: &[u8], at: usize) -> Option<Taken<Decimal>>
     ensures { result ≡ leads_of s.now at }
 {
     let start = (Cursor { at }).start(s);
     let size = s.len();
     if size <= start {
-        return Leads::Not;
+        return None;
     }
     let end = window_end(size, start, sizes::COORDINATE_BYTES);
     let l = coordinates::lead(&s[start..end]);
-    let d = l.decimal;
-    let Decimal::Is { mantissa, exponent } = d else {
-        return Leads::Not;
-    };
+    let value = l.value?;
     let next = start + l.next;
-    let ends = (Cursor { at: next }).ends_word(s);
-    if ends {
-        return Leads::Is {
-            mantissa,
-            exponent,
-            next,
-        };
+    if (Cursor { at: next }).ends_word(s) {
+        return Some(Taken { value, next });
     }
-    Leads::Not
+    None
 }

@@ -5,5 +5,5 @@ mod leads;
 mod went;
 mod window;
 
-pub use leads::{Leads, quick_lead};
-pub use went::{Went, quick_pair};
+pub use leads::quick_lead;
+pub use went::quick_pair;

@@ -3,33 +3,22 @@ ghost use Rattle.std.specs.Prelude.{◌≡◌};
 ghost use Rattle.pairs.specs.Pairs.{went_of};
 
 use super::window::window_end;
-use decimals::Mild;
 use tokens::Cursor;
 
 // The place behind a coordinate word.
-#[derive(Clone, Copy)]
-pub enum Went {
-    To(usize),
-    Not,
-}
-
-pub fn quick_pair(s: &[u8], at: usize) -> Went
+pub fn quick_pair(s: &[u8], at: usize) -> Option<usize>
     ensures { result ≡ went_of s.now at }
 {
     let start = (Cursor { at }).start(s);
     let size = s.len();
     if size <= start {
-        return Went::Not;
+        return None;
     }
     let end = window_end(size, start, sizes::COORDINATE_BYTES);
-    let m = coordinates::mild_in(&s[start..end]);
-    let Mild::To(count) = m else {
-        return Went::Not;
-    };
+    let count = coordinates::mild_in(&s[start..end])?;
     let next = start + count;
-    let ends = (Cursor { at: next }).ends_word(s);
-    if ends {
-        return Went::To(next);
+    if (Cursor { at: next }).ends_word(s) {
+        return Some(next);
     }
-    Went::Not
+    None
 }

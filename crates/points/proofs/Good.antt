@@ -7,7 +7,7 @@ use Rattle.mesh.specs.Rows.{node_words}
 use Rattle.tokens.specs.Listed.{Tok}
 use Rattle.layout.specs.Items.{Pair}
 use Rattle.layout.specs.Rows.{joined, pad}
-use Rattle.layout.specs.Reading.{Got, got, bad, next, pair_word, rows_of}
+use Rattle.layout.specs.Reading.{Got, got, bad, pair_word, rows_of}
 use Rattle.again.specs.Again.{Then, Taken, many, Takes}
 use Rattle.again.proofs.Then.{then_more}
 use Rattle.again.proofs.Many.{many_takes}

@@ -6,13 +6,27 @@ use Rattle.tokens.specs.Listed.{Tok, tokens_from}
 use Rattle.layout.specs.Items.{Pair}
 use Rattle.layout.specs.Rows.{joined, pad}
 use Rattle.layout.specs.Reading.{Got, got, bad, pair_word}
+use Rattle.facts.specs.declared.Taken as facts
+use Rattle.decimals.specs.declared.decimal.Decimal.{Decimal}
+use Rattle.points.specs.declared.pair.Lent.{Lent}
 use Rattle.again.specs.Again.{Taken, many}
-use Rattle.points.specs.declared.pair.Coordinate.{Coordinate}
+use Rattle.steps.specs.Views.{pair_for}
 
 -- mantissas and exponents side by side
 pub record Both : Type 0 where
   pub mantissas : List ℤ
   pub exponents : List ℤ
+
+abbrev pub both : List ℤ → List ℤ → Both
+both ms es = record { mantissas = ms; exponents = es }
+
+-- what the lent slices hold
+abbrev pub seen : Lent → Both
+seen x = both x.mantissas.now x.exponents.now
+
+-- the same slices are still lent
+abbrev pub Kept : Lent → Lent → Type 0
+Kept x y = (y.mantissas.ghost_name ≡ x.mantissas.ghost_name) × (y.exponents.ghost_name ≡ x.exponents.ghost_name)
 
 abbrev pub set_pairs : Both → ℕ → List Pair → Both
 set_pairs b k ps = record { mantissas = sets b.mantissas k (map (λ p. p.mantissa) ps); exponents = sets b.exponents k (map (λ p. p.exponent) ps) }
@@ -44,8 +58,8 @@ abbrev pub coordinates_in : ℕ → ℕ
 coordinates_in d = min d node_words
 
 -- ---- what the code answers
-abbrev pub Took : List ℕ → Taken (List Tok) Pair → Coordinate → Type 0
-Took s t r = (record { mantissa = r.mantissa; exponent = r.exponent } ≡ t.thing) × (tokens_from s r.next ≡ t.next)
+abbrev pub Took : List ℕ → Taken (List Tok) Pair → facts.Taken Decimal → Type 0
+Took s t r = (pair_for r.value ≡ t.thing) × (tokens_from s r.next ≡ t.next)
 
 -- from `old` to `new`: what is taken stands from place k on, and the tokens behind it are those from r on
 abbrev pub Puts : List ℕ → Taken (List Tok) (List Pair) → ℕ → Both → Both → ℕ → Type 0

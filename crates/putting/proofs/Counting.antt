@@ -39,9 +39,6 @@ module _ (n : ℕ) (h : n < 2 ^ 64) where
   top : (j : ℕ) × (count_leading_zeros 64 (bit_or n 1) + suc j ≡ 64) × (2 ^ j ≤ bit_or n 1) × (bit_or n 1 < 2 ^ suc j)
   top = leading_top 64 (bit_or n 1) (omega (arith, some_is n)) (or_lt 64 n 1 h (lit< tt))
 
-  pub zeros_few : count_leading_zeros 64 (bit_or n 1) ≤ 67
-  zeros_few = omega (arith, top.1)
-
   pub counted_bits : (67 - count_leading_zeros 64 (bit_or n 1)) / 4 ≡ length (figures 16 n)
   counted_bits =
       let j = top.0 in

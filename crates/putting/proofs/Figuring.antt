@@ -1,12 +1,11 @@
 -- A number's figures laid from the last to the first: what is left to lay. Assumes nothing.
 use Prim.Native.Nat.{ℕ, suc, ◌+◌, ◌-◌, ◌/◌, ◌%◌, ◌≤◌, ◌<◌, min}
 use native.Mathlib.Omega.{arith}
-use native.Mathlib.Nat.{mod-lt, mod-eq_of_lt}
-use native.Mathlib.Numerals.{add-one}
+use native.Mathlib.Nat.{mod-eq_of_lt}
 use mathlib.Core.Path.{◌≡◌, refl, sym, ◌∙◌, ap, subst}
 use mathlib.Core.List.{List, [], ◌∷◌, ◌++◌}
 use lib.ListN.{length, take, drop, set, length-set}
-use lib.Seq.{sets, sets-eq, length-sets, set_comm, take_all, take-append-le}
+use lib.Seq.{sets, sets-eq, set_comm, take_all, take-append-le}
 use borrow.Author.Tests.{ltb-true, ltb-false}
 use lib.Dec.{ltb}
 use Rattle.facts.proofs.Branch.{split}
@@ -29,16 +28,6 @@ pub record Laying (base from : ℕ) (old : List ℕ) (n : ℕ) (cur : List ℕ) 
   pub none : left ≤ 0 → cur ≡ sets old from (figures base n)
 
 module _ (base : ℕ) (lo : 10 ≤ base) (hi : base ≤ 16) where
-  pub last_small : (v : ℕ) → v % base < 16
-  last_small v = omega (arith, mod-lt v {m = base} (omega arith))
-
-  pub last_decimal : (v : ℕ) → base ≤ 10 → v % base < 10
-  last_decimal v h = omega (arith, mod-lt v {m = base} (omega arith))
-
-  pub laying_start : (old : List ℕ) (from count n : ℕ) → count ≡ length (figures base n) → from + count ≤ length old → Laying base from old n old n count
-  laying_start old from count n e h =
-      record { kept = refl; within = h; some = λ l. (e, refl); none = λ l. absurd (omega (arith, figures_some base (omega arith) hi n)) }
-
   module _ (from : ℕ) (old : List ℕ) (n : ℕ) (cur : List ℕ) (v left : ℕ) (g : Laying base from old n cur v left) (l : 0 < left) (f : ℕ) (e : f ≡ figure (v % base)) where
     laying_last : v < base → Laying base from old n (set cur (from + (left - 1)) f) (v / base) (left - 1)
     laying_last h =
@@ -83,19 +72,10 @@ module _ (old : List ℕ) (at : ℕ) (bytes : List ℕ) (wide : length old < mos
   pub laid_there : next ≤ length old → (new : List ℕ) → new ≡ sets old at bytes → Whole old at bytes new next
   laid_there h new n = record { laid = λ _. n; none = λ l. absurd (omega arith); place = place; wide = omega arith }
 
--- a byte, and those behind it
-module _ (old : List ℕ) (at lead : ℕ) (bytes new : List ℕ) (n : new ≡ sets (set old at lead) (at + 1) bytes) where
-  pub behind_laid : new ≡ sets old at (lead ∷ bytes)
-  behind_laid = n ∙ ap (λ k. sets (set old at lead) k bytes) (add-one at)
-
-  pub behind_kept : length new ≡ length old
-  behind_kept = ap length behind_laid ∙ length-sets old at (lead ∷ bytes)
-
 -- bytes put from the front of a list that they were laid to
 pub put_from : {out : List ℕ} {at : ℕ} {new : List ℕ} {r : ℕ} (old bytes mid : List ℕ) (count : ℕ) → mid ≡ sets old 0 bytes → count ≡ length bytes → length bytes ≤ length old
-    → Put out at (take (count - 0) (drop 0 mid)) new r → Put out at bytes new r
+    → Put out at (take count mid) new r → Put out at bytes new r
 put_from {out = out} {at = at} {new = new} {r = r} old bytes mid count m e h p =
-    let z : count - 0 ≡ length bytes = omega arith in
     let y : take (length bytes) (sets old 0 bytes) ≡ bytes
     = ap (take (length bytes)) (sets-eq bytes old 0 (omega arith)) ∙ take-append-le (length bytes) bytes (drop (0 + length bytes) old) (omega arith) ∙ take_all (length bytes) bytes (omega arith) in
-    subst (λ x. Put out at x new r) (ap (λ k. take k mid) z ∙ ap (take (length bytes)) m ∙ y) p
+    subst (λ x. Put out at x new r) (ap (λ k. take k mid) e ∙ ap (take (length bytes)) m ∙ y) p

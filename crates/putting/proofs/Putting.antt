@@ -7,8 +7,8 @@ use mathlib.Core.Path.{◌≡◌, refl, sym, ◌∙◌, ap, subst}
 use mathlib.Core.List.{List, [], ◌∷◌, ◌++◌}
 use borrow.Author.Tests.{leb-true, leb-false}
 use lib.Dec.{leb}
-use lib.ListN.{length, drop, get_or, set, length-append}
-use lib.Seq.{sets, length-sets, set_out, drop-cons}
+use lib.ListN.{length, drop, get_or, length-append}
+use lib.Seq.{sets, length-sets, drop-cons}
 use Rattle.facts.proofs.Branch.{split}
 use Rattle.facts.proofs.Sets.{sets_append, sets_out}
 use Rattle.putting.specs.Putting.{most, Put}
@@ -46,17 +46,6 @@ put_more {old = old} {at = at} {xs = xs} {mid = mid} {m = m} {ys = ys} {new = ne
 
 pub put_none : {old : List ℕ} {at : ℕ} → length old ≤ most → at ≤ most → Put old at [] old at
 put_none {old = old} {at = at} l h = let z : at + 0 ≡ at = omega arith in record { laid = refl; place = sym (ap (λ y. min y most) z ∙ min-eq_left h); wide = l }
-
--- ---- one byte
-module _ (old : List ℕ) (at b : ℕ) (l : length old ≤ most) where
-  pub put_inside : at < length old → Put old at (b ∷ []) (set old at b) (at + 1)
-  put_inside h = record { laid = refl; place = sym (min-eq_left (omega arith)); wide = l }
-
-  pub put_outside : length old ≤ at → at < most → Put old at (b ∷ []) old (at + 1)
-  put_outside h g = record { laid = sym (set_out old at b h); place = sym (min-eq_left (omega arith)); wide = l }
-
-  pub put_past : most ≤ at → at ≤ most → Put old at (b ∷ []) old at
-  put_past h g = let e : at ≡ most = omega arith in record { laid = sym (set_out old at b (omega arith)); place = e ∙ sym (min-eq_right (omega arith)); wide = l }
 
 -- ---- any loop that lays `whole` from `at` on: at c it has `rest` left to lay
 pub record Left (old : List ℕ) (at : ℕ) (whole : List ℕ) (cur : List ℕ) (c : ℕ) (rest : List ℕ) : Type 0 where

@@ -1,41 +1,23 @@
 -- Signed numbers, as the machine has them, and coordinates. Assumes nothing.
 use Prim.Native.Nat.{ℕ, suc, ◌+◌, ◌≤◌}
 use native.Mathlib.Omega.{arith}
-use mathlib.Core.Path.{◌≡◌, refl, sym, ◌∙◌, ap}
+use mathlib.Core.Path.{◌≡◌, ◌∙◌, ap}
 use mathlib.Core.List.{List, [], ◌∷◌}
-use mathlib.Core.Bool.{true, false}
 use lib.IntN.{ℤ, pos, negsuc, nat_abs}
-use lib.ListN.{length, set, length-append, length-set}
-use lib.Seq.{sets, length-sets, set-set}
-use lib.Signed.{lt_z}
+use lib.ListN.{length, set, length-append}
+use lib.Seq.{sets, set-set}
 use mir.Syntax.{w32, w64}
 use mir.Val.{SFits, of_z, to_z}
 use mir.ValLaws.{to_z-of_z}
-use borrow.Author.Tests.{ltb-true}
 use Rattle.figures.specs.Figures.{figures}
 use Rattle.figures.specs.Signed.{sign_text, decimal_text, coordinate_text}
 use Rattle.figures.proofs.Figures.{figures_some}
 use Rattle.putting.specs.Putting.{Laid}
 use Rattle.putting.proofs.Laying.{laid_more}
 
-below_text : (z : ℤ) → lt_z z (pos 0) ≡ true → sign_text z ≡ 45 ∷ []
-below_text (pos n) t = absurd (omega (arith, ltb-true n 0 t))
-below_text (negsuc n) t = refl
-
-above_text : (z : ℤ) → lt_z z (pos 0) ≡ false → sign_text z ≡ []
-above_text (pos n) t = refl
-above_text (negsuc n) t = absurd (let z : ◌≡◌ {A = ℕ} 0 1 = cc in omega arith)
-
 pub sign_short : (z : ℤ) → length (sign_text z) ≤ 1
 sign_short (pos n) = omega arith
 sign_short (negsuc n) = omega arith
-
-module _ (z : ℤ) (f : SFits w64 z) where
-  pub sign_below : lt_z (to_z w64 (of_z w64 z)) (pos 0) ≡ true → 1 ≡ length (sign_text z)
-  sign_below t = sym (ap length (below_text z (rw (to_z-of_z w64 z f) at t)))
-
-  pub sign_above : lt_z (to_z w64 (of_z w64 z)) (pos 0) ≡ false → 0 ≡ length (sign_text z)
-  sign_above t = sym (ap length (above_text z (rw (to_z-of_z w64 z f) at t)))
 
 -- ---- all of it: a byte, a sign, and the figures behind the sign or over it
 sets_over : (vs l : List ℕ) (i x : ℕ) → 1 ≤ length vs → sets (set l i x) i vs ≡ sets l i vs
@@ -67,9 +49,6 @@ module _ (z : ℤ) (f : SFits w64 z) {n s : ℕ} (e : n ≡ nat_abs (to_z w64 (o
   signed_long lead h = omega (arith, sign_is, ap (λ m. length (figures 10 m)) size_is, length-append (sign_text z) (figures 10 (nat_abs z)))
 
   module _ (lead at : ℕ) (old new : List ℕ) (l : new ≡ sets (set (set old at lead) (at + 1) 45) (at + (1 + s)) (figures 10 n)) where
-    pub signed_kept : length new ≡ length old
-    signed_kept = ap length l ∙ length-sets (set (set old at lead) (at + 1) 45) (at + (1 + s)) (figures 10 n) ∙ length-set (set old at lead) (at + 1) 45 ∙ length-set old at lead
-
     pub signed_laid : new ≡ sets old at (lead ∷ decimal_text z)
     signed_laid = l ∙ ap (λ k. sets (set (set old at lead) (at + 1) 45) (at + (1 + k)) (figures 10 n)) sign_is ∙ ap (λ m. sets (set (set old at lead) (at + 1) 45) (at + (1 + length (sign_text z))) (figures 10 m)) size_is ∙ over_laid z lead at old
 

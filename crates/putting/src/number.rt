@@ -1,21 +1,21 @@
 // A number's figures, over the base.
-ghost use Rattle.std.specs.Prelude.{◌+◌, ◌*◌, ◌^◌, ◌≤◌, ◌<◌, min, ◌≡◌, length};
+ghost use Rattle.std.specs.Prelude.{◌+◌, ◌*◌, ◌^◌, ◌≤◌, ◌<◌, ◌≡◌, length};
 ghost use Rattle.std.proofs.lemmas.List.Edits.{sets};
 ghost use Rattle.figures.specs.Figures.{figure, figures};
-ghost use Rattle.putting.specs.Putting.{most, Put};
+ghost use Rattle.putting.specs.Putting.{Put};
 
 use super::put::put_text;
 
+#[tactic(auto, unfolding(figures::specs::Figures::figure))]
 fn figure_of(d: u64) -> u8
     requires { d < 16 }
     ensures { result ≡ figure d }
 {
     if d < 10 {
-        let b = 48 + d;
-        return b as u8;
+        b'0' + d as u8
+    } else {
+        b'a' + (d - 10) as u8
     }
-    let b = 87 + d;
-    b as u8
 }
 
 // How many decimal figures a number has of which `before` and one to four more are known.
@@ -58,80 +58,58 @@ pub(crate) fn decimal_count(n: u64) -> usize
 pub(crate) fn hex_count(n: u64) -> usize
     ensures { result ≡ length (figures 16 n) }
 {
-    let some = n | 1;
-    let zeros = u64::leading_zeros(some);
-    let bits = 67 - zeros;
-    let count = bits / 4;
-    count as usize
+    let bits = 67 - (n | 1).leading_zeros();
+    (bits / 4) as usize
 }
 
-// The figures from the last to the first.
-pub(crate) fn lay_figures(out: &mut [u8], from: usize, count: usize, base: u64, n: u64)
-    requires { (10 ≤ base) × (base ≤ 16) × (count ≡ length (figures base n)) × (from + count ≤ length out.old) }
-    ensures { out.new ≡ sets out.old from (figures base n) }
+// The figures from the last to the first. The base is a constant, so that no number is divided by one that is not known.
+pub(crate) fn lay_figures<const BASE: u64>(out: &mut [u8], from: usize, count: usize, n: u64)
+    requires { (10 ≤ BASE) × (BASE ≤ 16) × (count ≡ length (figures BASE n)) × (from + count ≤ length out.old) }
+    ensures { out.new ≡ sets out.old from (figures BASE n) }
 {
     let mut v = n;
-    let mut left = count;
-    while 0 < left {
-        left -= 1;
-        let i = from + left;
-        let low = v % base;
-        out[i] = figure_of(low);
-        v /= base;
+    for left in (0..count).rev() {
+        let low = v % BASE;
+        out[from + left] = figure_of(low);
+        v /= BASE;
     }
-}
-
-// The place behind so many bytes, the largest one at most.
-pub(crate) fn past(at: usize, count: usize) -> usize
-    ensures { result ≡ min (at + count) most }
-{
-    let room = 18446744073709551615 - at;
-    if count <= room {
-        let next = at + count;
-        return next;
-    }
-    18446744073709551615
 }
 
 // A number that the end may cut.
-fn put_cut(out: &mut [u8], at: usize, base: u64, n: u64, count: usize) -> usize
-    requires { (10 ≤ base) × (base ≤ 16) × (count ≡ length (figures base n)) }
-    ensures { Put out.old at (figures base n) out.new result }
+fn put_cut<const BASE: u64>(out: &mut [u8], at: usize, count: usize, n: u64) -> usize
+    requires { (10 ≤ BASE) × (BASE ≤ 16) × (count ≡ length (figures BASE n)) }
+    ensures { Put out.old at (figures BASE n) out.new result }
 {
     let mut whole: [u8; 20] = [0; 20];
-    lay_figures(&mut whole, 0, count, base, n);
-    put_text(out, at, &whole[0..count])
+    lay_figures::<BASE>(&mut whole, 0, count, n);
+    put_text(out, at, &whole[..count])
 }
 
-// The base is a constant here, so that no number that has room is divided by one that is not known.
-pub fn put_decimal(out: &mut [u8], at: usize, n: u64) -> usize
-    ensures { Put out.old at (figures 10 n) out.new result }
+// A number with so many figures.
+fn put_figures<const BASE: u64>(out: &mut [u8], at: usize, count: usize, n: u64) -> usize
+    requires { (10 ≤ BASE) × (BASE ≤ 16) × (count ≡ length (figures BASE n)) }
+    ensures { Put out.old at (figures BASE n) out.new result }
 {
-    let count = decimal_count(n);
-    let next = past(at, count);
+    let next = at.saturating_add(count);
     let size = out.len();
     if next <= size {
-        lay_figures(out, at, count, 10, n);
+        lay_figures::<BASE>(out, at, count, n);
         return next;
     }
     if size <= at {
         return next;
     }
-    put_cut(out, at, 10, n, count)
+    put_cut::<BASE>(out, at, count, n)
+}
+
+pub fn put_decimal(out: &mut [u8], at: usize, n: u64) -> usize
+    ensures { Put out.old at (figures 10 n) out.new result }
+{
+    put_figures::<10>(out, at, decimal_count(n), n)
 }
 
 pub fn put_hex(out: &mut [u8], at: usize, n: u64) -> usize
     ensures { Put out.old at (figures 16 n) out.new result }
 {
-    let count = hex_count(n);
-    let next = past(at, count);
-    let size = out.len();
-    if next <= size {
-        lay_figures(out, at, count, 16, n);
-        return next;
-    }
-    if size <= at {
-        return next;
-    }
-    put_cut(out, at, 16, n, count)
+    put_figures::<16>(out, at, hex_count(n), n)
 }

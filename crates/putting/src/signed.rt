@@ -3,7 +3,7 @@ ghost use Rattle.std.specs.Prelude.{◌≡◌, ◌∷◌, length};
 ghost use Rattle.figures.specs.Signed.{sign_text, decimal_text};
 ghost use Rattle.putting.specs.Putting.{Whole};
 
-use super::number::{decimal_count, lay_figures, past};
+use super::number::{decimal_count, lay_figures};
 use decimals::magnitude;
 
 fn sign_count(z: i64) -> usize
@@ -20,14 +20,14 @@ pub fn lay_signed(out: &mut [u8], at: usize, lead: u8, z: i64) -> usize
     let count = decimal_count(n);
     let before = 1 + sign_count(z);
     let long = before + count;
-    let next = past(at, long);
+    let next = at.saturating_add(long);
     if next <= out.len() {
         // The first figure is laid over the sign of a number that has none.
         let sign = at + 1;
         out[at] = lead;
-        out[sign] = 45;
+        out[sign] = b'-';
         let from = at + before;
-        lay_figures(out, from, count, 10, n);
+        lay_figures::<10>(out, from, count, n);
     }
     next
 }

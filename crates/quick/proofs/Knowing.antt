@@ -1,4 +1,5 @@
 -- Where a hexadecimal word stands, the digits there are all of it. Assumes nothing.
+use Rattle.std.specs.Prelude.{Some}
 use Prim.Native.Nat.{ℕ, ◌+◌, ◌-◌, ◌≤◌, ◌<◌}
 use native.Mathlib.Omega.{arith}
 use mathlib.Core.Path.{◌≡◌, sym, ap, subst, ◌∙◌}
@@ -14,7 +15,6 @@ use Rattle.tokens.specs.Tokens.{start_of, token_at}
 use Rattle.tokens.proofs.Bounds.{Moved}
 use Rattle.tokens.proofs.Ended.{word_token, ended_low}
 use Rattle.tokens.proofs.Listed.{moved}
-use Rattle.numbers.specs.declared.whole.Whole.{Whole}
 use Rattle.digits.specs.declared.quick.Hexes.{Hexes}
 use Rattle.digits.specs.Digits.{digit_of}
 use Rattle.numbers.specs.Whole.{hexadecimal_of}
@@ -35,7 +35,7 @@ begins_at l k h =
     (λ p. subst (Begins (NoDigit 16)) (sym (drop_of_length-le l (ltb-false k (length l) p))) tt)
 
 module _ (s : List ℕ) (at : ℕ) (t : Step) (e : t ≡ token_at s at) (q : t.token ≡ Token.Word) (v : ℕ)
-    (h : hexadecimal_of (take (t.next.at - t.start) (drop t.start s)) ≡ Whole.Is v) where
+    (h : hexadecimal_of (take (t.next.at - t.start) (drop t.start s)) ≡ Some v) where
   abbrev size : ℕ
   size = t.next.at - t.start
 

@@ -3,4 +3,4 @@
 
 mod words;
 
-pub use words::{Known, Quick, digit_hex, known_hex, quick_hex};
+pub use words::{digit_hex, known_hex, quick_hex};

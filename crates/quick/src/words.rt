@@ -3,6 +3,7 @@ ghost use Rattle.std.specs.Prelude.{◌≡◌, ◌+◌, ◌<◌, ◌^◌};
 ghost use Rattle.quick.specs.Quick.{hexes_from, near_hexes, quick_by, quick_of, figure_of, digit_hex, known_by, known_of};
 
 use digits::Hexes;
+use facts::Taken;
 use tokens::Cursor;
 
 // Most digits of a whole number.
@@ -13,20 +14,6 @@ const NEAR_BYTES: usize = 9;
 
 // A blank, a digit and the byte behind it.
 const DIGIT_BYTES: usize = 3;
-
-// The value of a hexadecimal word, and the place behind it.
-#[derive(Clone, Copy)]
-pub enum Quick {
-    Is { value: u32, next: usize },
-    Not,
-}
-
-// Digits at a place, and the place behind them.
-#[derive(Clone, Copy)]
-pub struct Known {
-    pub value: u32,
-    pub next: usize,
-}
 
 // The digits from a place on, at most 8. Two calls, so that the compiler sees the length of a whole window.
 fn hexes_from(s: &[u8], start: usize) -> Hexes
@@ -44,7 +31,7 @@ fn hexes_from(s: &[u8], start: usize) -> Hexes
     digits::hexes_in(&s[start..end])
 }
 
-// The digits behind one blank, where 8 bytes stand there and the word seems to end behind the digits; else none. So words mostly stand, and it takes no loop.
+// The digits behind one blank, where 8 bytes stand there and the word seems to end behind the digits; else none, which is a count of 0, as `hexes_in` answers it. So words mostly stand, and it takes no loop.
 fn near_hexes(s: &[u8], at: usize) -> Hexes
     ensures { result ≡ near_hexes s.now at }
 {
@@ -78,24 +65,24 @@ fn near_hexes(s: &[u8], at: usize) -> Hexes
 }
 
 // The word of these digits, if it ends behind them.
-fn quick_of(s: &[u8], start: usize, h: Hexes) -> Quick
+fn quick_of(s: &[u8], start: usize, h: Hexes) -> Option<Taken<u32>>
     requires { start + h.count < 2 ^ 64 }
     ensures { result ≡ quick_by s.now start h }
 {
     let n = h.count;
     if n == 0 {
-        return Quick::Not;
+        return None;
     }
     let next = start + n;
     let ends = (Cursor { at: next }).ends_word(s);
     if ends {
         let value = h.value;
-        return Quick::Is { value, next };
+        return Some(Taken { value, next });
     }
-    Quick::Not
+    None
 }
 
-pub fn quick_hex(s: &[u8], at: usize) -> Quick
+pub fn quick_hex(s: &[u8], at: usize) -> Option<Taken<u32>>
     ensures { result ≡ quick_of s.now at }
 {
     let near = near_hexes(s, at);
@@ -109,31 +96,29 @@ pub fn quick_hex(s: &[u8], at: usize) -> Quick
 }
 
 // The decimal digit that a byte is.
-fn figure_of(b: u8, next: usize) -> Quick
+fn figure_of(b: u8, next: usize) -> Option<Taken<u32>>
     ensures { result ≡ figure_of b next }
 {
-    if b < 48 {
-        return Quick::Not;
+    match b {
+        b'0'..=b'9' => {
+            let value = u32::from(b - b'0');
+            Some(Taken { value, next })
+        }
+        _ => None,
     }
-    if 57 < b {
-        return Quick::Not;
-    }
-    let figure = b - 48;
-    let value = figure as u32;
-    Quick::Is { value, next }
 }
 
 // A word of one decimal digit behind one blank: how the number that leads a row mostly stands.
-pub fn digit_hex(s: &[u8], at: usize) -> Quick
+pub fn digit_hex(s: &[u8], at: usize) -> Option<Taken<u32>>
     ensures { result ≡ digit_hex s.now at }
 {
     let size = s.len();
     if size < DIGIT_BYTES {
-        return Quick::Not;
+        return None;
     }
     let last = size - DIGIT_BYTES;
     if last < at {
-        return Quick::Not;
+        return None;
     }
     let blank = tokens::is_blank(s[at]);
     if blank {
@@ -143,22 +128,22 @@ pub fn digit_hex(s: &[u8], at: usize) -> Quick
         if ends {
             return figure_of(s[from], behind);
         }
-        return Quick::Not;
+        return None;
     }
-    Quick::Not
+    None
 }
 
-fn known_of(start: usize, h: Hexes) -> Known
+fn known_of(start: usize, h: Hexes) -> Taken<u32>
     requires { start + h.count < 2 ^ 64 }
     ensures { result ≡ known_by start h }
 {
     let value = h.value;
     let next = start + h.count;
-    Known { value, next }
+    Taken { value, next }
 }
 
 // The hexadecimal word of a file that is known to be good: whether it ends behind its digits is not asked.
-pub fn known_hex(s: &[u8], at: usize) -> Known
+pub fn known_hex(s: &[u8], at: usize) -> Taken<u32>
     ensures { result ≡ known_of s.now at }
 {
     let near = near_hexes(s, at);

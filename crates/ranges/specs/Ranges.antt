@@ -1,7 +1,7 @@
 -- Room, as the code has it. Assumes nothing.
+use Rattle.std.specs.Prelude.{ℕ, Option, Some, None}
 use Rattle.layout.specs.Keeps as Keeps
-use Rattle.ranges.specs.declared.Limit.{Limit}
 
-abbrev pub limit_for : Limit → Keeps.Limit
-limit_for Limit.Unlimited = Keeps.unlimited
-limit_for (Limit.Most n) = Keeps.most n
+abbrev pub limit_for : Option ℕ → Keeps.Limit
+limit_for None = Keeps.unlimited
+limit_for (Some n) = Keeps.most n

@@ -16,8 +16,10 @@ mod shown;
 ghost use Rattle.std.specs.Prelude.{◌<◌, ◌≤◌, IfOk, length};
 
 use cases::{line_end, text_end};
-use rooms::{least, words_of};
+use casewords::numbers_of;
+use rooms::lent;
 use shown::{print_reply, print_rows, print_zones};
+use std::alloc::Global;
 use std::io;
 use std::io::{BufWriter, Read, Write};
 
@@ -44,30 +46,26 @@ fn judge(
     room: usize,
 ) -> io::Result<()> {
     let found = filling::read_flat(text, mantissas, exponents, faces, cells, room);
-    let reply = found.reply;
-    let zones = found.zones;
-    let flat = found.flat;
-    print_reply(out, reply)?;
+    print_reply(out, found.reply)?;
     print_rows(out, b"m", mantissas, 3)?;
     print_rows(out, b"e", exponents, 3)?;
     print_rows(out, b"f", faces, 8)?;
     print_rows(out, b"c", cells, 2)?;
-    print_zones(out, &flat, zones)
+    print_zones(out, &found.flat, found.zones)
 }
 
-// Lends what the case's line says.
-fn lend(out: &mut impl Write, line: &[u8], text: &[u8]) -> io::Result<()> {
-    let mut words: [u32; 5] = [0; 5];
-    words_of(line, &mut words);
-    let m = least(words[0], NODE_WORDS);
-    let e = least(words[1], NODE_WORDS);
-    let f = least(words[2], FACE_WORDS);
-    let c = least(words[3], CELL_WORDS);
-    let room = least(words[4], ZONES);
-    let mut mantissas: [i64; 72] = [7; 72];
-    let mut exponents: [i32; 72] = [-7; 72];
-    let mut faces: [u32; 192] = [7; 192];
-    let mut cells: [u32; 48] = [7; 48];
+// Lends what the case's line says. `%%` is no number and the name is no word.
+fn lend(alloc: Global, out: &mut impl Write, line: &[u8], text: &[u8]) -> io::Result<()> {
+    let numbers = numbers_of(alloc, line)?;
+    let m = lent(&numbers, 0, NODE_WORDS);
+    let e = lent(&numbers, 1, NODE_WORDS);
+    let f = lent(&numbers, 2, FACE_WORDS);
+    let c = lent(&numbers, 3, CELL_WORDS);
+    let room = lent(&numbers, 4, ZONES);
+    let mut mantissas: [i64; NODE_WORDS] = [7; NODE_WORDS];
+    let mut exponents: [i32; NODE_WORDS] = [-7; NODE_WORDS];
+    let mut faces: [u32; FACE_WORDS] = [7; FACE_WORDS];
+    let mut cells: [u32; CELL_WORDS] = [7; CELL_WORDS];
     judge(
         out,
         text,
@@ -80,7 +78,7 @@ fn lend(out: &mut impl Write, line: &[u8], text: &[u8]) -> io::Result<()> {
 }
 
 // The case whose line begins at `at`, if a line of %% stands behind it. Answers where the next case begins.
-fn one_case(out: &mut impl Write, s: &[u8], at: usize) -> io::Result<usize>
+fn one_case(alloc: Global, out: &mut impl Write, s: &[u8], at: usize) -> io::Result<usize>
     requires { at < length s.now }
     ensures { IfOk result (λ next. at < next) }
 {
@@ -95,14 +93,15 @@ fn one_case(out: &mut impl Write, s: &[u8], at: usize) -> io::Result<usize>
         return Ok(size);
     }
     out.write_all(&s[at..start])?;
-    lend(out, &s[at..line], &s[start..end])?;
+    lend(alloc, out, &s[at..line], &s[start..end])?;
     Ok(end + 1)
 }
 
-fn run(out: &mut impl Write, s: &[u8]) -> io::Result<()> {
+// No `for`: how long a case is, is known when it is read.
+fn run(alloc: Global, out: &mut impl Write, s: &[u8]) -> io::Result<()> {
     let mut at: usize = 0;
     while at < s.len() {
-        at = one_case(out, s, at)?;
+        at = one_case(alloc, out, s, at)?;
     }
     Ok(())
 }
@@ -111,6 +110,6 @@ fn main(rt: HostRuntime) -> io::Result<()> {
     let mut out = BufWriter::new(rt.alloc(), io::writer(&rt))?;
     let mut text = Vec::new(rt.alloc());
     rt.reader().take(MOST).read_to_end(&mut text)?;
-    run(&mut out, &text)?;
+    run(rt.alloc(), &mut out, &text)?;
     out.flush()
 }

@@ -1,7 +1,7 @@
 // What is printed of a case.
 ghost use Rattle.std.specs.Prelude.{◌<◌};
 
-use layout::{Refusal, Reply};
+use layout::{Accepted, Refused};
 use std::fmt::Display;
 use std::io;
 use std::io::Write;
@@ -55,22 +55,22 @@ pub(crate) fn print_zones(out: &mut impl Write, flat: &[u32], zones: usize) -> i
     Ok(())
 }
 
-pub(crate) fn print_reply(out: &mut impl Write, reply: Reply) -> io::Result<()> {
+pub(crate) fn print_reply(
+    out: &mut impl Write,
+    reply: Result<Accepted, Refused>,
+) -> io::Result<()> {
     match reply {
-        Reply::Accepted {
-            dim,
-            nodes,
-            faces,
-            cells,
-            zones,
-        } => writeln!(out, "0 0 0 {dim} {nodes} {faces} {cells} {zones}"),
-        Reply::Refused {
-            why,
-            section,
-            offset,
-        } => {
-            let number = numbering::number_of(why);
-            writeln!(out, "{number} {section} {offset} 0 0 0 0 0")
+        Ok(mesh) => {
+            write!(out, "0 0 0 {} {} ", mesh.dim, mesh.nodes)?;
+            writeln!(out, "{} {} {}", mesh.faces, mesh.cells, mesh.zones)
+        }
+        Err(refused) => {
+            let number = numbering::number_of(refused.why);
+            writeln!(
+                out,
+                "{number} {} {} 0 0 0 0 0",
+                refused.section, refused.offset
+            )
         }
     }
 }

@@ -1,4 +1,5 @@
 -- The layout's theorems, of the calls: what their contracts come to. Assumes nothing.
+use Rattle.layout.specs.Replies.{refuses}
 use Prim.Native.Nat.{ℕ}
 use mathlib.Core.Path.{◌≡◌, sym, ap, ◌∙◌}
 use mathlib.Core.Logic.{◌↔◌}
@@ -6,7 +7,6 @@ use contract.Lifetimes.{Lfts}
 use denote.Triple.Entry.{Args, Res}
 use denote.Triple.Clauses.{AtExit}
 use Rattle.layout.specs.declared.Refusal.{Refusal}
-use Rattle.layout.specs.declared.Reply.{Reply}
 use Rattle.layout.specs.Replies.{Points}
 use Rattle.layout.specs.Says.{Mesh, Says}
 use Rattle.layout.specs.Read.{Result, read_of}
@@ -33,7 +33,7 @@ module _ (κ : Lfts 6) (a : Args read.signature κ) (r : Res read.signature κ) 
   read_one_mesh m n q s = one_mesh a.0.now (takes κ a) m n ((read_exactly m).0 q) s
 
   -- a refusal has one of the paper's numbers, points into the file, and leaves all that is lent as it was
-  pub read_refused : (w : Refusal) (k o : ℕ) → r ≡ Reply.Refused w k o → Points a.0.now w k o × (leaves κ x ≡ takes κ a)
+  pub read_refused : (w : Refusal) (k o : ℕ) → r ≡ refuses w k o → Points a.0.now w k o × (leaves κ x ≡ takes κ a)
   read_refused w k o q =
       let h = refusal_points a.0.now (takes κ a) w k o (sym (ap (λ (y : Result). y.reply) answered_is) ∙ q) in
       (h.0, ap (λ (y : Result). y.held) answered_is ∙ h.1)

@@ -5,9 +5,9 @@ ghost use Rattle.filling.specs.Zones.{zone_at, filled};
 use mesh::Zone;
 
 // The record at i, six words a record.
-fn zone_at(flat: [u32; 384], i: usize) -> Zone
+fn zone_at(flat: &[u32; 384], i: usize) -> Zone
     requires { i < 64 }
-    ensures { result ≡ zone_at flat i }
+    ensures { result ≡ zone_at flat.now i }
 {
     let b = i * 6;
     Zone {
@@ -21,14 +21,11 @@ fn zone_at(flat: [u32; 384], i: usize) -> Zone
 }
 
 // The first n records of the table go to the start of the list.
-pub(crate) fn fill(zs: &mut [Zone], flat: [u32; 384], n: usize)
+pub(crate) fn fill(zs: &mut [Zone], flat: &[u32; 384], n: usize)
     requires { (n ≤ 64) × (n ≤ length zs.old) }
-    ensures { zs.new ≡ filled flat n zs.old }
+    ensures { zs.new ≡ filled flat.now n zs.old }
 {
-    let mut i: usize = 0;
-    while i < n {
-        let z = zone_at(flat, i);
-        zs[i] = z;
-        i += 1;
+    for i in 0..n {
+        zs[i] = zone_at(flat, i);
     }
 }

@@ -6,6 +6,7 @@ ghost use Rattle.facts.specs.Bytes.{big_endian};
 ghost use Rattle.records.specs.Record.{narrow, has_place, extra_bytes, size_of, record_of};
 ghost use Rattle.records.specs.Laid.{Laid, laid, step};
 
+// The kind is a number, since a list's bytes are read as records too, and there it may be any byte.
 // The extra is a position, a side or a count, and 0 where the kind has none.
 #[derive(Clone, Copy)]
 pub struct Fault {
@@ -14,12 +15,15 @@ pub struct Fault {
     pub extra: u32,
 }
 
-// The place behind the last record, and whether no record was left out so far.
+// The place behind the last record, and whether no record was left out so far. The place is answered in both cases.
 #[derive(Clone, Copy)]
 pub struct Pen {
     pub at: usize,
     pub live: bool,
 }
+
+// The kind whose extra is a count.
+pub const COUNTED: u32 = 9;
 
 const INDEX_BYTES: usize = 2;
 
@@ -31,19 +35,19 @@ const EXTRA_AT: usize = 1 + INDEX_BYTES;
 fn has_place(kind: u32) -> bool
     ensures { result ≡ has_place kind }
 {
-    2 <= kind && kind <= 4
+    matches!(kind, 2..=4)
 }
 
 pub fn extra_bytes(kind: u32) -> usize
     ensures { result ≡ extra_bytes narrow kind }
 {
     if has_place(kind) {
-        return 1;
+        1
+    } else if kind == COUNTED {
+        COUNT_BYTES
+    } else {
+        0
     }
-    if kind == 9 {
-        return COUNT_BYTES;
-    }
-    0
 }
 
 // Fills the start of the list with n bytes of x, the highest first.
@@ -51,13 +55,10 @@ fn lay_number(list: &mut [u8], n: usize, x: u32)
     requires { n ≤ length list.old }
     ensures { list.new ≡ big_endian n x ++ drop n list.old }
 {
-    let mut i = n;
     let mut v = x;
-    while 0 < i {
-        i = i - 1;
-        let low = v % 256;
-        list[i] = low as u8;
-        v = v / 256;
+    for i in (0..n).rev() {
+        list[i] = (v % 256) as u8;
+        v /= 256;
     }
 }
 
@@ -68,11 +69,8 @@ fn lay_extra(list: &mut [u8], kind: u32, x: u32)
 {
     if has_place(kind) {
         lay_number(list, 1, x);
-        return;
-    }
-    if kind == 9 {
+    } else if kind == COUNTED {
         lay_number(list, COUNT_BYTES, x);
-        return;
     }
 }
 
@@ -86,34 +84,21 @@ fn lay_record(list: &mut [u8], f: Fault)
     lay_extra(&mut list[EXTRA_AT..], f.kind, f.extra);
 }
 
-// What is left of a list behind a place.
-fn room_behind(size: usize, at: usize) -> usize
-    ensures { result ≡ size - at }
-{
-    if at < size { size - at } else { 0 }
-}
-
 // Lays one more record in the rest of the list, if it fits and none was left out before.
 pub fn put(list: &mut [u8], pen: Pen, f: Fault) -> Pen
     ensures { ◌≡◌ {A = Laid} (laid list.new result) (step narrow (laid list.old pen) f) }
 {
     let at = pen.at;
-    let live = pen.live;
     let size = EXTRA_AT + extra_bytes(f.kind);
-    let room = room_behind(list.len(), at);
+    let room = list.len().saturating_sub(at);
     let fits = size <= room;
-    if live {
-        if fits {
-            lay_record(&mut list[at..], f);
-            let next = at + size;
-            return Pen {
-                at: next,
-                live: true,
-            };
-        }
+    if pen.live && fits {
+        lay_record(&mut list[at..], f);
+        let next = at + size;
+        return Pen {
+            at: next,
+            live: true,
+        };
     }
-    Pen {
-        at: at,
-        live: false,
-    }
+    Pen { at, live: false }
 }

@@ -1,9 +1,8 @@
 -- [01:The report program]. What is printed of a text that is not over-long. To be believed: all of this file. Assumes nothing.
-use Rattle.std.specs.Prelude.{ℕ, List, [], ◌∷◌, true, false, eqb, pos, take, replicate}
+use Rattle.std.specs.Prelude.{ℕ, List, [], ◌∷◌, true, false, eqb, pos, take, replicate, Ok, Err}
 use Rattle.facts.specs.Text.{bytes}
 use Rattle.mesh.specs.Rows.{places}
-use Rattle.layout.specs.declared.Reply.{Reply}
-use Rattle.layout.specs.Replies.{number_of}
+use Rattle.layout.specs.Replies.{number_of, Reply}
 use Rattle.layout.specs.Rows.{Lent, no_zone}
 use Rattle.layout.specs.Read.{read_of}
 use Rattle.audit.specs.Audit.{tables, Out, audit_of}
@@ -31,8 +30,8 @@ audited o nodes faces cells =
 
 -- "A refusal prints `refused`, number, section, offset."
 abbrev pub reported : Reply → Lent → List ℕ
-reported (Reply.Refused w k o) held = line (bytes "refused") (number_of w ∷ k ∷ o ∷ [])
-reported (Reply.Accepted d n f c z) held = audited (audit_of places (tables d n f c held.faces held.cells) (replicate 1024 0) (replicate 4096 0)) n f c
+reported (Err b) held = line (bytes "refused") (number_of b.why ∷ b.section ∷ b.offset ∷ [])
+reported (Ok a) held = audited (audit_of places (tables a.dim a.nodes a.faces a.cells held.faces held.cells) (replicate 1024 0) (replicate 4096 0)) a.nodes a.faces a.cells
 
 unfoldable pub report_of : List ℕ → List ℕ
 report_of s = reported (read_of s lent).reply (read_of s lent).held

@@ -7,8 +7,7 @@ ghost use Rattle.audit.specs.Audit.{tables, audit_of};
 ghost use Rattle.lines.specs.Writing.{Wrote, line};
 ghost use Rattle.report.specs.Report.{audited, report_of};
 
-use audit::Audited;
-use layout::{Refusal, Reply};
+use layout::Refusal;
 use lines::{put_line, put_total};
 
 fn put_refusal(out: &mut [u8], why: Refusal, section: u32, offset: usize) -> usize
@@ -53,13 +52,13 @@ fn put_audit(
         &mut list,
     );
     match a {
-        Audited::Refused(_) => put_clean(out, nodes, faces, cells),
-        Audited::Done { total, bytes } => {
-            let is_clean = total == 0;
+        Err(_) => put_clean(out, nodes, faces, cells),
+        Ok(done) => {
+            let is_clean = done.total == 0;
             if is_clean {
                 put_clean(out, nodes, faces, cells)
             } else {
-                put_total(out, total, &list[..bytes])
+                put_total(out, done.total, &list[..done.bytes])
             }
         }
     }
@@ -81,19 +80,10 @@ pub fn report(text: &[u8], out: &mut [u8]) -> usize
         &mut cells,
         64,
     );
-    let reply = found.reply;
-    match reply {
-        Reply::Refused {
-            why,
-            section,
-            offset,
-        } => put_refusal(out, why, section, offset),
-        Reply::Accepted {
-            dim,
-            nodes,
-            faces: f,
-            cells: c,
-            zones: _,
-        } => put_audit(out, dim, nodes, f, c, &faces, &cells),
+    match found.reply {
+        Err(refused) => put_refusal(out, refused.why, refused.section, refused.offset),
+        Ok(mesh) => put_audit(
+            out, mesh.dim, mesh.nodes, mesh.faces, mesh.cells, &faces, &cells,
+        ),
     }
 }

@@ -1,4 +1,5 @@
 -- On a good file the words and rows that are stored are those that the text says. Assumes nothing.
+use Rattle.std.specs.Prelude.{Option, Some, None}
 use Prim.Native.Nat.{ℕ, ◌-◌, ◌≤◌}
 use mathlib.Core.Path.{◌≡◌, refl, sym, ap, subst, ◌∙◌}
 use mathlib.Core.List.{List, [], ◌∷◌}
@@ -13,7 +14,6 @@ use Rattle.tokens.specs.declared.Step.{Step}
 use Rattle.tokens.specs.Tokens.{token_at}
 use Rattle.tokens.specs.Listed.{Tok, tok_then, tokens_from}
 use Rattle.tokens.proofs.Listed.{tokens_kind}
-use Rattle.numbers.specs.declared.whole.Whole.{Whole}
 use Rattle.numbers.specs.declared.sort.Sort.{Sort}
 use Rattle.numbers.specs.Whole.{hexadecimal_of}
 use Rattle.layout.specs.declared.Refusal.{Refusal}
@@ -21,7 +21,7 @@ use Rattle.layout.specs.Rows.{joined, face_row}
 use Rattle.layout.specs.Reading as R
 use Rattle.layout.specs.Reading.{Reader, next, pure, word_of, numbered, hex_word, rows_of}
 use Rattle.layout.specs.Sections.{hex_of, element_of, facing_of, mixed_of}
-use Rattle.quick.specs.declared.words.Known.{Known}
+use Rattle.facts.specs.declared.Taken.{Taken}
 use Rattle.quick.specs.Quick.{known_of}
 use Rattle.quick.proofs.Knowing.{known_word}
 use Rattle.again.specs.Again.{Then, many, Takes}
@@ -59,9 +59,9 @@ module _ (s : List ℕ) where
     abbrev here : List ℕ
     here = take (t.next.at - t.start) (drop t.start s)
 
-    number_then : t.token ≡ Token.Word → (u : Whole) → hexadecimal_of here ≡ u → Then (numbered (length s) Sort.Hexadecimal u t.start here (tokens_from s t.next.at)) Read
-    number_then q (Whole.Is v) h = let k = known_word s at t refl q v h in (ap (λ (y : Known). y.value) k, ap (λ (y : Known). tokens_from s y.next) k)
-    number_then q Whole.Not h = tt
+    number_then : t.token ≡ Token.Word → (u : Option ℕ) → hexadecimal_of here ≡ u → Then (numbered (length s) Sort.Hexadecimal u t.start here (tokens_from s t.next.at)) Read
+    number_then q (Some v) h = let k = known_word s at t refl q v h in (ap (λ (y : Taken ℕ). y.value) k, ap (λ (y : Taken ℕ). tokens_from s y.next) k)
+    number_then q None h = tt
 
     token_then : (k : Token) → t.token ≡ k → Then (hex_word (length s) (tok_then k s t.start t.next.at (tokens_from s t.next.at))) Read
     unfolding word_of

@@ -1,5 +1,5 @@
 -- Words stored as they are read, whatever stands there. Steps of the code, which no mesher need read: on a good file they are the words that the text says (proofs/Good). Assumes nothing.
-use Rattle.std.specs.Prelude.{ℕ, ◌≤◌, ◌≡◌, List}
+use Rattle.std.specs.Prelude.{ℕ, ◌≤◌, ◌≡◌, List, Option, Some, None}
 use Rattle.std.proofs.lemmas.List.Edits.{sets}
 use Rattle.again.specs.Again.{Taken, many}
 use Rattle.twos.specs.declared.Two.{Two}
@@ -18,6 +18,6 @@ abbrev pub Puts : Taken ℕ (List ℕ) → ℕ → List ℕ → List ℕ → ℕ
 Puts t k old new r = (new ≡ sets old k t.thing) × (r ≡ t.next)
 
 -- two words found together, where as many are left
-abbrev pub TwoLeft : List ℕ → ℕ → ℕ → Two → Type 0
-TwoLeft s at left (Two.Is f v n) = (2 ≤ left) × TwoSays s at (Two.Is f v n)
-TwoLeft s at left Two.Not = Unit
+abbrev pub TwoLeft : List ℕ → ℕ → ℕ → Option Two → Type 0
+TwoLeft s at left (Some t) = (2 ≤ left) × TwoSays s at (Some t)
+TwoLeft s at left None = Unit

@@ -4,6 +4,7 @@ ghost use Rattle.std.proofs.lemmas.List.Edits.{sets};
 ghost use Rattle.rows.specs.Rows.{rows_at, same_rows};
 
 use super::row::{Form, put_row, width_of};
+use mesh::CELL_WORDS;
 use stores::store;
 
 fn put_all(s: &[u8], at: usize, form: Form, ztype: u32, n: u32, rows: &mut [u32], k: usize)
@@ -12,12 +13,11 @@ fn put_all(s: &[u8], at: usize, form: Form, ztype: u32, n: u32, rows: &mut [u32]
 {
     let width = width_of(form);
     let mut c = at;
-    let mut left = n;
+    // The place goes on by a sum: as a product of a row's number and the width it was slower.
     let mut i = k;
-    while 0 < left {
+    for _row in 0..n {
         c = put_row(s, c, form, ztype, rows, i);
         i += width;
-        left -= 1;
     }
 }
 
@@ -34,14 +34,10 @@ fn put_copies(element: u32, ztype: u32, n: u32, rows: &mut [u32], k: usize)
     requires { k ≤ 2 ^ 61 }
     ensures { rows.new ≡ sets rows.old k (same_rows element ztype n) }
 {
-    let mut left = n;
-    let mut i = k;
-    while 0 < left {
+    for j in 0..n as usize {
+        let i = k + j * CELL_WORDS;
         store(rows, i, element);
-        let next = i + 1;
-        store(rows, next, ztype);
-        i += 2;
-        left -= 1;
+        store(rows, i + 1, ztype);
     }
 }
 

@@ -5,6 +5,7 @@ ghost use Rattle.rows.specs.Words.{Puts};
 ghost use Rattle.rows.specs.Rows.{corners_of, facing_at, mixed_at, element_at, row_at, width_of};
 
 use super::words::{count_at, put_words, put_zeros};
+use mesh::{CELL_WORDS, FACE_WORDS, PLACES};
 use stores::store;
 
 // What a row is: a face of n nodes, a face that says how many it has, a cell that says its element.
@@ -19,10 +20,7 @@ pub enum Form {
 fn corners_of(n: u32) -> u32
     ensures { result ≡ corners_of n }
 {
-    if 4 < n {
-        return 0;
-    }
-    n
+    if n as usize <= PLACES { n } else { 0 }
 }
 
 // The row of a face of n nodes: their count, the nodes, zeros in the places that are left, the two cells, the type.
@@ -32,15 +30,11 @@ fn put_facing(s: &[u8], at: usize, n: u32, ztype: u32, rows: &mut [u32], k: usiz
 {
     store(rows, k, n);
     let nodes = k + 1;
-    let c = put_words(s, at, n, rows, nodes);
     let used = n as usize;
-    let behind = nodes + used;
-    let spare = 4 - n;
-    put_zeros(rows, behind, spare);
-    let cells = k + 5;
-    let d = put_words(s, c, 2, rows, cells);
-    let last = k + 7;
-    store(rows, last, ztype);
+    let c = put_words(s, at, n, rows, nodes);
+    put_zeros(rows, nodes + used, PLACES - used);
+    let d = put_words(s, c, 2, rows, nodes + PLACES);
+    store(rows, k + FACE_WORDS - 1, ztype);
     d
 }
 
@@ -51,8 +45,7 @@ fn put_mixed(s: &[u8], at: usize, ztype: u32, rows: &mut [u32], k: usize) -> usi
 {
     let v = count_at(s, at);
     let n = corners_of(v.value);
-    let next = v.next;
-    put_facing(s, next, n, ztype, rows, k)
+    put_facing(s, v.next, n, ztype, rows, k)
 }
 
 // A cell that says its element.
@@ -62,8 +55,7 @@ fn put_element(s: &[u8], at: usize, ztype: u32, rows: &mut [u32], k: usize) -> u
 {
     let v = count_at(s, at);
     store(rows, k, v.value);
-    let last = k + 1;
-    store(rows, last, ztype);
+    store(rows, k + 1, ztype);
     v.next
 }
 
@@ -92,8 +84,7 @@ pub(crate) fn width_of(form: Form) -> usize
     ensures { result ≡ width_of form }
 {
     match form {
-        Form::Facing(_) => 8,
-        Form::Mixed => 8,
-        Form::Element => 2,
+        Form::Facing(_) | Form::Mixed => FACE_WORDS,
+        Form::Element => CELL_WORDS,
     }
 }

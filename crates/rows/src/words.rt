@@ -1,10 +1,10 @@
 // Words of a file, stored one behind the other.
-ghost use Rattle.std.specs.Prelude.{◌≡◌, ◌≤◌, ◌^◌, replicate};
+ghost use Rattle.std.specs.Prelude.{◌≡◌, ◌+◌, ◌<◌, ◌≤◌, ◌^◌, replicate};
 ghost use Rattle.std.proofs.lemmas.List.Edits.{sets};
 ghost use Rattle.quick.specs.Quick.{known_of};
 ghost use Rattle.rows.specs.Words.{words_at, Puts, TwoLeft};
 
-use quick::{Known, Quick};
+use facts::Taken;
 use stores::store;
 use twos::{Two, known_two};
 
@@ -17,16 +17,16 @@ fn put_word(s: &[u8], at: usize, words: &mut [u32], k: usize) -> usize
 }
 
 // The next two words together, where as many are left and both are short.
-fn two_left(s: &[u8], at: usize, left: u32) -> Two
+fn two_left(s: &[u8], at: usize, left: u32) -> Option<Two>
     ensures { TwoLeft s.now at left result }
 {
     if left < 2 {
-        return Two::Not;
+        return None;
     }
     known_two(s, at)
 }
 
-// n words of the file, from place k on.
+// n words of the file, from place k on. One or two at a time, so no `for` counts them.
 pub(crate) fn put_words(s: &[u8], at: usize, n: u32, words: &mut [u32], k: usize) -> usize
     requires { k ≤ 2 ^ 63 }
     ensures { Puts (words_at s.now n at) k words.old words.new result }
@@ -35,61 +35,47 @@ pub(crate) fn put_words(s: &[u8], at: usize, n: u32, words: &mut [u32], k: usize
     let mut left = n;
     let mut i = k;
     while 0 < left {
-        let t = two_left(s, c, left);
-        match t {
-            Two::Is {
-                first,
-                second,
-                next,
-            } => {
-                let behind = i + 1;
-                store(words, i, first);
-                store(words, behind, second);
-                c = next;
-                i += 2;
-                left -= 2;
-            }
-            Two::Not => {
-                c = put_word(s, c, words, i);
-                i += 1;
-                left -= 1;
-            }
+        if let Some(two) = two_left(s, c, left) {
+            store(words, i, two.first);
+            store(words, i + 1, two.second);
+            c = two.next;
+            i += 2;
+            left -= 2;
+        } else {
+            c = put_word(s, c, words, i);
+            i += 1;
+            left -= 1;
         }
     }
     c
 }
 
 // n zeros from place k on.
-pub(crate) fn put_zeros(words: &mut [u32], k: usize, n: u32)
-    requires { k ≤ 2 ^ 63 }
+pub(crate) fn put_zeros(words: &mut [u32], k: usize, n: usize)
+    requires { k + n < 2 ^ 64 }
     ensures { words.new ≡ sets words.old k (replicate n 0) }
 {
-    let mut left = n;
-    let mut i = k;
-    while 0 < left {
+    for i in k..k + n {
         store(words, i, 0);
-        i += 1;
-        left -= 1;
     }
 }
 
 // A word by its digits. By way of the loop, so that the compiler has `known_hex` there alone and puts it inside.
-fn word_at(s: &[u8], at: usize) -> Known
+fn word_at(s: &[u8], at: usize) -> Taken<u32>
     ensures { result ≡ known_of s.now at }
 {
-    let mut word: [u32; 1] = [0; 1];
+    let mut word = [0];
     let next = put_words(s, at, 1, &mut word, 0);
-    let value = word[0];
-    Known { value, next }
+    let [value] = word;
+    Taken { value, next }
 }
 
 // Likewise, and most numbers that lead a row are one digit.
-pub(crate) fn count_at(s: &[u8], at: usize) -> Known
+pub(crate) fn count_at(s: &[u8], at: usize) -> Taken<u32>
     ensures { result ≡ known_of s.now at }
 {
-    let q = quick::digit_hex(s, at);
-    match q {
-        Quick::Is { value, next } => Known { value, next },
-        Quick::Not => word_at(s, at),
+    match quick::digit_hex(s, at) {
+        Some(v) => v,
+        None => word_at(s, at),
     }
 }

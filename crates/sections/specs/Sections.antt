@@ -1,5 +1,5 @@
 -- Sections with their bodies left out, and the code's answers as theirs. Assumes nothing.
-use Rattle.std.specs.Prelude.{ℕ, ◌≤◌, ◌<◌, ◌≡◌, List, Bool, eqb, length}
+use Rattle.std.specs.Prelude.{ℕ, List, Bool, eqb, Result, Ok, Err}
 use Rattle.tokens.specs.Listed.{tokens_from}
 use Rattle.layout.specs.declared.Refusal.{Refusal}
 use Rattle.layout.specs.Items as Items
@@ -12,10 +12,12 @@ use Rattle.spots.specs.declared.Kind.{Kind}
 use Rattle.spots.specs.declared.Head.{Head}
 use Rattle.sofar.specs.declared.State.{State}
 use Rattle.sofar.specs.declared.Room.{Room}
-use Rattle.judging.specs.declared.judge.Judged.{Judged}
+use Rattle.spots.specs.declared.Bad.{Bad}
+use Rattle.kept.specs.declared.Kept.{Kept}
 use Rattle.notes.specs.declared.note.Met.{Met}
-use Rattle.sections.specs.declared.section.Sect.{Sect}
-use Rattle.spots.specs.Heads.{kind_for, fifth_for, head_for}
+use Rattle.facts.specs.declared.Taken.{Taken}
+use Rattle.spots.specs.Pasts.{taken_view, TakenAt}
+use Rattle.spots.specs.Heads.{word_of, kind_for, fifth_for, head_for}
 use Rattle.bodies.specs.Bodies.{forget}
 use Rattle.kept.specs.Kept.{kept_of}
 use Rattle.ranges.specs.Ranges.{limit_for}
@@ -46,35 +48,25 @@ met_for (Met.Decl k h) = decl (kind_for k) (header_of (head_for h))
 met_for (Met.Part k h) = part (kind_for k) (header_of (head_for h))
 met_for Met.Other = other
 
-abbrev pub sect_view : List ℕ → Sect → Got Outline
-sect_view s (Sect.Is m n) = got (met_for m) (tokens_from s n)
-sect_view s (Sect.No b) = bad b.why b.offset
+abbrev pub sect_view : List ℕ → Result (Taken Met) Bad → Got Outline
+sect_view = taken_view met_for
 
-abbrev pub SectAhead : ℕ → List ℕ → Sect → Type 0
-SectAhead at s (Sect.Is m n) = (at < n) × (n ≤ length s)
-SectAhead at s (Sect.No b) = Unit
-
-pub record SectAt (s : List ℕ) (at : ℕ) (r : Sect) (g : Got Outline) : Type 0 where
-  pub says : sect_view s r ≡ g
-  pub ahead : SectAhead at s r
-
-abbrev pub settle : Judged → Met → ℕ → Sect
-settle Judged.Fine m n = Sect.Is m n
-settle (Judged.No b) m n = Sect.No b
+abbrev pub SectAt : List ℕ → ℕ → Result (Taken Met) Bad → Got Outline → Type 0
+SectAt = TakenAt met_for
 
 -- ---- the state and the room
 abbrev pub room_all : Room → Keeps.Room
 room_all r = record { nodes = limit_for r.nodes; cells = limit_for r.cells; faces = limit_for r.faces; zones = limit_for r.zones }
 
-module _ (ids firsts lasts : List ℕ) where
+module _ (kept : List Kept) where
   abbrev pub clear_for : Kind → ℕ → Head → Bool
-  clear_for k z h = every (clear h.first.value h.last.value) (kept_of ids firsts lasts (id_for k) z)
+  clear_for k z h = every (clear h.first.value h.last.value) (kept_of kept (id_for k) z)
 
 -- ---- what is left of a section
 -- what a judgement lets through
-abbrev pub gate : {A : Type 0} → Judged → Reader A → Reader A
-gate Judged.Fine k ts = k ts
-gate (Judged.No b) k ts = bad b.why b.offset
+abbrev pub gate : {A : Type 0} → Result Unit Bad → Reader A → Reader A
+gate (Ok u) k ts = k ts
+gate (Err b) k ts = bad b.why b.offset
 
 abbrev pub ended : ℕ → Met → Reader Outline
 ended size m = do
@@ -83,10 +75,10 @@ ended size m = do
 
 abbrev pub body_ended : ℕ → Kind → ℕ → Head → Reader Outline
 body_ended size k d h ts =
-    next (forget (body_of size (kind_for k) (dim_after d (fifth_for (dim_word_for k h.fifth))) (count_for h.first.value h.last.value) (fifth_for h.fifth) ts)) (λ u. ended size (Met.Part k h))
+    next (forget (body_of size (kind_for k) (dim_after d (fifth_for (dim_word_for k (word_of h.fifth)))) (count_for h.first.value h.last.value) (fifth_for (word_of h.fifth)) ts)) (λ u. ended size (Met.Part k h))
 
-abbrev pub two_judged : ℕ → ℕ → ℕ → Judged
-two_judged d n o = test (dim_listed (Items.given n)) Refusal.Type o (test (agrees d (Items.given n)) Refusal.Dimension o Judged.Fine)
+abbrev pub two_judged : ℕ → ℕ → ℕ → Result Unit Bad
+two_judged d n o = test (dim_listed (Items.given n)) Refusal.Type o (test (agrees d (Items.given n)) Refusal.Dimension o (Ok tt))
 
 abbrev pub two_end : ℕ → St.State → ℕ → ℕ → Reader Items.Item
 two_end size x v i = do

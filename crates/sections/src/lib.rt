@@ -3,4 +3,4 @@
 
 mod section;
 
-pub use section::{Sect, section_at};
+pub use section::section_at;

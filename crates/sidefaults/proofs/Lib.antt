@@ -1,4 +1,3 @@
-mod Leaves
 pub mod OfSides
 mod Marked
 pub mod Only

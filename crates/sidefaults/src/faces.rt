@@ -11,6 +11,7 @@ pub(crate) fn is_same(face: Face) -> bool
 }
 
 // A type of faces that have a cell on both sides.
+#[tactic(auto, unfolding(faults::specs::Faults::is_in))]
 pub(crate) fn is_interior(ztype: u32) -> bool
     ensures { result ≡ is_in ztype interior }
 {
@@ -20,20 +21,11 @@ pub(crate) fn is_interior(ztype: u32) -> bool
 pub(crate) fn is_open(cells: u32, face: Face) -> bool
     ensures { result ≡ is_open cells face }
 {
-    if cells == 0 {
-        return false;
-    }
-    if is_interior(face.ztype) {
-        return face.right == 0 || face.left == 0;
-    }
-    false
+    cells != 0 && is_interior(face.ztype) && (face.right == 0 || face.left == 0)
 }
 
 pub(crate) fn is_loose(cells: u32, face: Face) -> bool
     ensures { result ≡ is_loose cells face }
 {
-    if cells < 1 {
-        return false;
-    }
-    face.right == 0 && face.left == 0
+    cells != 0 && face.right == 0 && face.left == 0
 }

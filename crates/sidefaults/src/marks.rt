@@ -9,6 +9,7 @@ use faults::{Frame, bit_if};
 use mesh::Face;
 
 // Kind 4 has two bits, one a side; the others have one each.
+#[tactic(auto, using(faults::proofs::Sides::one_most))]
 pub fn side_part(frame: Frame, face: Face) -> u32
     ensures { result ≡ side_part places frame face }
 {

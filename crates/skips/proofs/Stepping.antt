@@ -1,4 +1,6 @@
 -- Stepping over a section, token by token. Assumes nothing.
+use Rattle.spots.specs.declared.Bad.{Bad}
+use Rattle.std.specs.Prelude.{Result, Ok, Err}
 use Prim.Native.Nat.{ℕ, zero, suc, ◌+◌, ◌-◌, ◌≤◌, ◌<◌}
 use native.Mathlib.Numerals.{add-one}
 use native.Mathlib.Omega.{arith}
@@ -17,7 +19,6 @@ use Rattle.tokens.proofs.Listed.{tokens_kind, moved, ended}
 use Rattle.tokens.proofs.Marks.{marks_on, mark_behind}
 use Rattle.layout.specs.declared.Refusal.{Refusal}
 use Rattle.layout.specs.Reading.{skip}
-use Rattle.spots.specs.declared.Past.{Past}
 use Rattle.spots.specs.Pasts.{past_view, PastAt}
 
 -- what is left to step over from c, d parentheses deep, is what there was
@@ -47,24 +48,24 @@ module _ (s : List ℕ) (at c d : ℕ) (h : Left s at c d) (t : Step) (e : t ≡
       let v = moved s c t k e q g in
       record { from = omega (arith, h.from); deep = m; same = sym p ∙ ap (skip (length s) d) (sym (tokens_kind s c t k e q)) ∙ h.same }
 
-  stays : (k : Token) → t.token ≡ k → (r : Past) → past_view s r ≡ skip (length s) d (tok_then k s t.start t.next.at (tokens_from s t.next.at))
+  stays : (k : Token) → t.token ≡ k → (r : Result ℕ Bad) → past_view s r ≡ skip (length s) d (tok_then k s t.start t.next.at (tokens_from s t.next.at))
       → past_view s r ≡ skip (length s) 0 (tokens_from s at)
   stays k q r p = p ∙ ap (skip (length s) d) (sym (tokens_kind s c t k e q)) ∙ h.same
 
-  abbrev Answers : Past → Type 0
+  abbrev Answers : Result ℕ Bad → Type 0
   Answers r = PastAt s at r (skip (length s) 0 (tokens_from s at))
 
   pub skip_open : t.token ≡ Token.Left → d + 1 < depth → Left s at t.next.at (d + 1)
   unfolding skip
   skip_open q l = went Token.Left tt q (d + 1) l (rw (lt-ltb (suc d) depth (omega arith), add-one, skip))
 
-  pub skip_deep : t.token ≡ Token.Left → depth ≤ d + 1 → Answers (Past.No (record { why = Refusal.Depth; offset = t.start }))
+  pub skip_deep : t.token ≡ Token.Left → depth ≤ d + 1 → Answers (Err (record { why = Refusal.Depth; offset = t.start }))
   unfolding skip
-  skip_deep q l = record { says = stays Token.Left q (Past.No (record { why = Refusal.Depth; offset = t.start })) (rw (le-ltb (suc d) depth (omega arith), skip)); ahead = tt }
+  skip_deep q l = record { says = stays Token.Left q (Err (record { why = Refusal.Depth; offset = t.start })) (rw (le-ltb (suc d) depth (omega arith), skip)); ahead = tt }
 
-  pub skip_last : t.token ≡ Token.Right → d ≡ 0 → Answers (Past.To t.next.at)
+  pub skip_last : t.token ≡ Token.Right → d ≡ 0 → Answers (Ok t.next.at)
   unfolding skip
-  skip_last q z = let v = moved s c t Token.Right e q tt in record { says = stays Token.Right q (Past.To t.next.at) (rw z); ahead = omega (arith, h.from) }
+  skip_last q z = let v = moved s c t Token.Right e q tt in record { says = stays Token.Right q (Ok t.next.at) (rw z); ahead = omega (arith, h.from) }
 
   pub skip_close : t.token ≡ Token.Right → (d ≡ 0 → ⊥) → Left s at t.next.at (d - 1)
   unfolding skip
@@ -78,10 +79,10 @@ module _ (s : List ℕ) (at c d : ℕ) (h : Left s at c d) (t : Step) (e : t ≡
   unfolding skip
   skip_text q = went Token.Text tt q d h.deep refl
 
-  pub skip_end : t.token ≡ Token.End → Answers (Past.No (record { why = Refusal.Grammar; offset = t.start }))
+  pub skip_end : t.token ≡ Token.End → Answers (Err (record { why = Refusal.Grammar; offset = t.start }))
   unfolding skip
-  skip_end q = record { says = stays Token.End q (Past.No (record { why = Refusal.Grammar; offset = t.start })) (rw (ended s c t e q)); ahead = tt }
+  skip_end q = record { says = stays Token.End q (Err (record { why = Refusal.Grammar; offset = t.start })) (rw (ended s c t e q)); ahead = tt }
 
-  pub skip_cut : t.token ≡ Token.Unclosed → Answers (Past.No (record { why = Refusal.Grammar; offset = t.start }))
+  pub skip_cut : t.token ≡ Token.Unclosed → Answers (Err (record { why = Refusal.Grammar; offset = t.start }))
   unfolding skip
-  skip_cut q = record { says = stays Token.Unclosed q (Past.No (record { why = Refusal.Grammar; offset = t.start })) refl; ahead = tt }
+  skip_cut q = record { says = stays Token.Unclosed q (Err (record { why = Refusal.Grammar; offset = t.start })) refl; ahead = tt }

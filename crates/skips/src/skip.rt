@@ -1,25 +1,16 @@
 // A section that is stepped over.
-ghost use Rattle.std.specs.Prelude.{◌≡◌, length};
+ghost use Rattle.std.specs.Prelude.{length};
 ghost use Rattle.tokens.specs.Listed.{tokens_from};
 ghost use Rattle.layout.specs.Reading.{skip};
 ghost use Rattle.spots.specs.Pasts.{PastAt};
 
 use finds::{mark_from, quote_from};
 use layout::Refusal;
-use spots::{Bad, Past};
-
-const LEFT: u8 = 40;
-
-const RIGHT: u8 = 41;
-
-fn no(why: Refusal, offset: usize) -> Past
-    ensures { result ≡ Past.No (record { why = why; offset = offset }) }
-{
-    Past::No(Bad { why, offset })
-}
+use spots::Bad;
 
 // To behind the `)` that closes the section; `at` is behind its id. d parentheses are open inside it. What stands at a mark and is no parenthesis is a quote.
-pub fn skip_from(s: &[u8], at: usize) -> Past
+// No `for`: it goes from one mark to the next, and over a string at once.
+pub fn skip_from(s: &[u8], at: usize) -> Result<usize, Bad>
     ensures { PastAt s.now at result (skip (length s.now) 0 (tokens_from s.now at)) }
 {
     let size = s.len();
@@ -28,22 +19,28 @@ pub fn skip_from(s: &[u8], at: usize) -> Past
     loop {
         let m = mark_from(s, c);
         if size <= m {
-            return no(Refusal::Grammar, size);
+            return Err(Bad {
+                why: Refusal::Grammar,
+                offset: size,
+            });
         }
         let b = s[m];
         let inside = m + 1;
-        if b == LEFT {
+        if b == b'(' {
             let deeper = d + 1;
             if sizes::DEPTH <= deeper {
-                return no(Refusal::Depth, m);
+                return Err(Bad {
+                    why: Refusal::Depth,
+                    offset: m,
+                });
             }
             d = deeper;
             c = inside;
             continue;
         }
-        if b == RIGHT {
+        if b == b')' {
             if d == 0 {
-                return Past::To(inside);
+                return Ok(inside);
             }
             d -= 1;
             c = inside;
@@ -51,7 +48,10 @@ pub fn skip_from(s: &[u8], at: usize) -> Past
         }
         let end = quote_from(s, inside);
         if size <= end {
-            return no(Refusal::Grammar, m);
+            return Err(Bad {
+                why: Refusal::Grammar,
+                offset: m,
+            });
         }
         c = end + 1;
     }

@@ -2,54 +2,52 @@
 #![tactic(auto)]
 
 ghost use Rattle.std.specs.Prelude.{◌≡◌};
-ghost use Rattle.sofar.specs.Sofar.{seen_of, id_for, room_of, count_for};
+ghost use Rattle.sofar.specs.Sofar.{seen_of, id_for, kind_for_id, room_of, count_for};
 
-use ranges::Limit;
 use spots::Kind;
 
-// Of one kind: whether it was declared, and its total.
-#[derive(Clone, Copy)]
-pub struct Seen {
-    pub declared: bool,
-    pub total: u32,
-}
-
-// What the sections so far leave behind, their ranges aside. The dimension is 0 where none is known.
-#[derive(Clone, Copy)]
+// What the sections so far leave behind, their ranges aside: of each kind its total, once it was declared. The dimension is 0 where none is known, as the definitions have it, and as a file may write it.
+#[derive(Clone, Copy, Debug, PartialEq, Eq)]
 pub struct State {
     pub dim: u32,
-    pub nodes: Seen,
-    pub cells: Seen,
-    pub faces: Seen,
+    pub nodes: Option<u32>,
+    pub cells: Option<u32>,
+    pub faces: Option<u32>,
     pub zones: u32,
 }
 
-// Whole rows of each kind, and zone records.
-#[derive(Clone, Copy)]
-pub struct Room {
-    pub nodes: Limit,
-    pub cells: Limit,
-    pub faces: Limit,
-    pub zones: Limit,
-}
-
-pub fn seen_of(x: State, kind: Kind) -> Seen
-    ensures { result ≡ seen_of x kind }
-{
-    match kind {
-        Kind::Node => x.nodes,
-        Kind::Cell => x.cells,
-        Kind::Face => x.faces,
+impl State {
+    // The total of a kind, once it was declared.
+    pub fn seen(self, kind: Kind) -> Option<u32>
+        ensures { result ≡ seen_of self kind }
+    {
+        match kind {
+            Kind::Node => self.nodes,
+            Kind::Cell => self.cells,
+            Kind::Face => self.faces,
+        }
     }
 }
 
-pub fn room_of(room: Room, kind: Kind) -> Limit
-    ensures { result ≡ room_of room kind }
-{
-    match kind {
-        Kind::Node => room.nodes,
-        Kind::Cell => room.cells,
-        Kind::Face => room.faces,
+// The most whole rows of each kind, and the most zone records; none is no limit.
+#[derive(Clone, Copy, Debug, PartialEq, Eq)]
+pub struct Room {
+    pub nodes: Option<usize>,
+    pub cells: Option<usize>,
+    pub faces: Option<usize>,
+    pub zones: Option<usize>,
+}
+
+impl Room {
+    // The most rows of a kind.
+    pub fn rows(self, kind: Kind) -> Option<usize>
+        ensures { result ≡ room_of self kind }
+    {
+        match kind {
+            Kind::Node => self.nodes,
+            Kind::Cell => self.cells,
+            Kind::Face => self.faces,
+        }
     }
 }
 
@@ -63,15 +61,25 @@ pub fn id_of(kind: Kind) -> u32
     }
 }
 
+// The kind whose sections have this id, if one has.
+pub fn kind_of(id: u32) -> Option<Kind>
+    ensures { result ≡ kind_for_id id }
+{
+    match id {
+        10 => Some(Kind::Node),
+        12 => Some(Kind::Cell),
+        13 => Some(Kind::Face),
+        _ => None,
+    }
+}
+
+// How many indices a range has; none where it begins below 1 or ends before it begins.
 pub fn count_of(first: u32, last: u32) -> u32
     ensures { result ≡ count_for first last }
 {
-    if first < 1 {
-        return 0;
+    if 1 <= first && first <= last {
+        last - first + 1
+    } else {
+        0
     }
-    if last < first {
-        return 0;
-    }
-    let more = last - first;
-    more + 1
 }

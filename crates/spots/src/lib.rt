@@ -1,24 +1,20 @@
-// What the readers of a section hand on to each other: words, headers and refusals, each with the place where it stands. No function.
+// What the readers of a section hand on to each other: words, headers and refusals, each with the place where it stands.
 #![tactic(auto)]
+
+ghost use Rattle.std.specs.Prelude.{◌≡◌};
+ghost use Rattle.spots.specs.Heads.{word_of, place_of};
 
 use layout::Refusal;
 
 // Why and where a file is refused.
-#[derive(Clone, Copy)]
+#[derive(Clone, Copy, Debug, PartialEq, Eq)]
 pub struct Bad {
     pub why: Refusal,
     pub offset: usize,
 }
 
-// The place behind a thing.
-#[derive(Clone, Copy)]
-pub enum Past {
-    To(usize),
-    No(Bad),
-}
-
 // The sections that are read by the same rules.
-#[derive(Clone, Copy)]
+#[derive(Clone, Copy, Debug, PartialEq, Eq)]
 pub enum Kind {
     Node,
     Cell,
@@ -32,20 +28,29 @@ pub struct Read {
     pub at: usize,
 }
 
-#[derive(Clone, Copy)]
-pub enum Fifth {
-    Given(u32),
-    Absent,
-}
-
-// The words of a header with their places, the place of the fifth (0 where it is absent) and of the `)`.
+// The words of a header with their places, and the place of the `)`.
 #[derive(Clone, Copy)]
 pub struct Head {
     pub zone: Read,
     pub first: Read,
     pub last: Read,
     pub ztype: Read,
-    pub fifth: Fifth,
-    pub place: usize,
+    pub fifth: Option<Read>,
     pub end: usize,
+}
+
+impl Head {
+    // The fifth word, if one is given.
+    pub fn word(self) -> Option<u32>
+        ensures { result ≡ word_of self.fifth }
+    {
+        self.fifth.map(|fifth| fifth.value)
+    }
+
+    // Where the fifth word stands; 0 where none is given.
+    pub fn place(self) -> usize
+        ensures { result ≡ place_of self.fifth }
+    {
+        self.fifth.map_or(0, |fifth| fifth.at)
+    }
 }

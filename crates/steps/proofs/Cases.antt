@@ -1,4 +1,5 @@
 -- Closed cases of the functions that only our own crates call: the right answer, and what a wrong program would have answered there. Assumes nothing.
+use Rattle.std.specs.Prelude.{Ok}
 use mathlib.Core.Path.{◌≡◌, refl}
 use mathlib.Core.List.{[], ◌∷◌}
 use lib.IntN.{pos}
@@ -12,20 +13,18 @@ use Rattle.numbers.specs.Bad.{bad_at}
 use Rattle.decimals.specs.Coordinate.{sign_in, fraction_in, power_of, reading_of, cut, in_range, fitted, keep, coordinate_of}
 use Rattle.layout.specs.declared.Refusal.{Refusal}
 use Rattle.layout.specs.Reading.{got, bad, left_of, right_of, word_of, number_by, paired, pair_word}
-use Rattle.spots.specs.declared.Past.{Past}
-use Rattle.spots.specs.Pasts.{past_view}
-use Rattle.steps.specs.declared.step.Close.{Close}
+use Rattle.spots.specs.Pasts.{taken, past_view}
 use Rattle.steps.specs.Views.{close_view, whole_for}
 
 -- `left_at`: the `(` not passed
 left_at :
     (left_of 2 (tokens_of (bytes "(2")) ≡ got tt (word 1 (bytes "2") ∷ []))
-    × (past_view (bytes "(2") (Past.To 0) ≡ got tt (left 0 ∷ word 1 (bytes "2") ∷ []))
+    × (past_view (bytes "(2") (Ok 0) ≡ got tt (left 0 ∷ word 1 (bytes "2") ∷ []))
 unfolding class_of run_end run_at token_of token_from token_at tokens_in tokens_from left_of
 left_at = (refl, refl)
 
 -- `right_at`: the `)` placed behind itself
-right_at : (right_of 1 (tokens_of (bytes ")")) ≡ got 0 []) × (close_view (bytes ")") (Close.At 1 1) ≡ got 1 [])
+right_at : (right_of 1 (tokens_of (bytes ")")) ≡ got 0 []) × (close_view (bytes ")") (taken 1 1) ≡ got 1 [])
 unfolding class_of run_end run_at token_of token_from token_at tokens_in tokens_from right_of
 right_at = (refl, refl)
 

@@ -1,54 +1,49 @@
 -- The code's answers as the definitions' answers: a place stands for the tokens from there on. Assumes nothing.
-use Rattle.std.specs.Prelude.{ℕ, ◌≡◌, List}
-use Rattle.tokens.specs.Listed.{tokens_from}
-use Rattle.numbers.specs.declared.whole.Whole.{Whole}
+use Rattle.std.specs.Prelude.{ℕ, ℤ, List, Option, None, Result}
+use Rattle.facts.specs.declared.Taken.{Taken}
 use Rattle.numbers.specs.declared.sort.Sort.{Sort}
 use Rattle.numbers.specs.Whole.{hexadecimal_of, section_id_of}
+use Rattle.decimals.specs.declared.decimal.Decimal.{Decimal}
 use Rattle.layout.specs.Items as Items
-use Rattle.layout.specs.Reading.{Got, got, bad, Read}
-use Rattle.spots.specs.Pasts.{Ahead}
-use Rattle.steps.specs.declared.step.Close.{Close}
-use Rattle.steps.specs.declared.step.Num.{Num}
-use Rattle.steps.specs.declared.step.Pair.{Pair}
+use Rattle.layout.specs.Reading as R
+use Rattle.layout.specs.Reading.{Got}
+use Rattle.spots.specs.declared.Bad.{Bad}
+use Rattle.spots.specs.declared.Read.{Read}
+use Rattle.spots.specs.Heads.{read_for}
+use Rattle.spots.specs.Pasts.{taken, taken_view, TakenAt}
 
-abbrev pub close_view : List ℕ → Close → Got ℕ
-close_view s (Close.At i n) = got i (tokens_from s n)
-close_view s (Close.No b) = bad b.why b.offset
+-- ---- a `)`: where it stands
+abbrev pub close_view : List ℕ → Result (Taken ℕ) Bad → Got ℕ
+close_view = taken_view (λ i. i)
 
-abbrev pub CloseAhead : ℕ → List ℕ → Close → Type 0
-CloseAhead at s (Close.At i n) = Ahead at s n
-CloseAhead at s (Close.No b) = Unit
+abbrev pub CloseAt : List ℕ → ℕ → Result (Taken ℕ) Bad → Got ℕ → Type 0
+CloseAt = TakenAt (λ i. i)
 
-pub record CloseAt (s : List ℕ) (at : ℕ) (r : Close) (g : Got ℕ) : Type 0 where
-  pub says : close_view s r ≡ g
-  pub ahead : CloseAhead at s r
+-- ---- a number, and where its word starts
+abbrev pub num_read : ℕ → ℕ → ℕ → Result (Taken Read) Bad
+num_read v i n = taken (record { value = v; at = i }) n
 
-abbrev pub num_view : List ℕ → Num → Got Read
-num_view s (Num.Is v i n) = got (record { value = v; at = i }) (tokens_from s n)
-num_view s (Num.No b) = bad b.why b.offset
+abbrev pub num_view : List ℕ → Result (Taken Read) Bad → Got R.Read
+num_view = taken_view read_for
 
-abbrev pub NumAhead : ℕ → List ℕ → Num → Type 0
-NumAhead at s (Num.Is v i n) = Ahead at s n
-NumAhead at s (Num.No b) = Unit
+abbrev pub NumAt : List ℕ → ℕ → Result (Taken Read) Bad → Got R.Read → Type 0
+NumAt = TakenAt read_for
 
-pub record NumAt (s : List ℕ) (at : ℕ) (r : Num) (g : Got Read) : Type 0 where
-  pub says : num_view s r ≡ g
-  pub ahead : NumAhead at s r
+-- ---- a coordinate
+abbrev pub pair_for : Decimal → Items.Pair
+pair_for d = record { mantissa = d.mantissa; exponent = d.exponent }
 
-abbrev pub pair_view : List ℕ → Pair → Got Items.Pair
-pair_view s (Pair.Is m e n) = got (record { mantissa = m; exponent = e }) (tokens_from s n)
-pair_view s (Pair.No b) = bad b.why b.offset
+abbrev pub pair_read : ℤ → ℤ → ℕ → Result (Taken Decimal) Bad
+pair_read m e n = taken (record { mantissa = m; exponent = e }) n
 
-abbrev pub PairAhead : ℕ → List ℕ → Pair → Type 0
-PairAhead at s (Pair.Is m e n) = Ahead at s n
-PairAhead at s (Pair.No b) = Unit
+abbrev pub pair_view : List ℕ → Result (Taken Decimal) Bad → Got Items.Pair
+pair_view = taken_view pair_for
 
-pub record PairAt (s : List ℕ) (at : ℕ) (r : Pair) (g : Got Items.Pair) : Type 0 where
-  pub says : pair_view s r ≡ g
-  pub ahead : PairAhead at s r
+abbrev pub PairAt : List ℕ → ℕ → Result (Taken Decimal) Bad → Got Items.Pair → Type 0
+PairAt = TakenAt pair_for
 
 -- the whole number of a sort; a coordinate is none
-abbrev pub whole_for : Sort → List ℕ → Whole
+abbrev pub whole_for : Sort → List ℕ → Option ℕ
 whole_for Sort.SectionId w = section_id_of w
 whole_for Sort.Hexadecimal w = hexadecimal_of w
-whole_for Sort.Coordinate w = Whole.Not
+whole_for Sort.Coordinate w = None

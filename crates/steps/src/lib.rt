@@ -5,4 +5,4 @@ mod pair;
 mod step;
 
 pub use pair::pair_at;
-pub use step::{Close, Num, Pair, left_at, number_at, right_at};
+pub use step::{left_at, number_at, right_at};

@@ -4,24 +4,16 @@ ghost use Rattle.tokens.specs.Listed.{tokens_from};
 ghost use Rattle.layout.specs.Reading.{pair_word};
 ghost use Rattle.steps.specs.Views.{PairAt};
 
-use super::step::{Pair, pair_by_token};
-use pairs::Leads;
+use super::step::pair_by_token;
+use decimals::Decimal;
+use facts::Taken;
+use spots::Bad;
 
-pub fn pair_at(s: &[u8], at: usize) -> Pair
+pub fn pair_at(s: &[u8], at: usize) -> Result<Taken<Decimal>, Bad>
     ensures { PairAt s.now at result (pair_word (length s.now) (tokens_from s.now at)) }
 {
-    let l = pairs::quick_lead(s, at);
-    let Leads::Is {
-        mantissa,
-        exponent,
-        next,
-    } = l
-    else {
+    let Some(read) = pairs::quick_lead(s, at) else {
         return pair_by_token(s, at);
     };
-    Pair::Is {
-        mantissa,
-        exponent,
-        next,
-    }
+    Ok(read)
 }

@@ -1,9 +1,10 @@
-// One number of a table. Past the end nothing is stored.
+// Values of a table. Past the end nothing is stored.
 #![tactic(auto)]
 
 ghost use Rattle.std.specs.Prelude.{◌≡◌, set};
+ghost use Rattle.std.proofs.lemmas.List.Edits.{sets};
 
-pub fn store(words: &mut [u32], i: usize, v: u32)
+pub fn store<T: Copy + Drop>(words: &mut [T], i: usize, v: T)
     ensures { words.new ≡ set words.old i v }
 {
     if i < words.len() {
@@ -11,18 +12,10 @@ pub fn store(words: &mut [u32], i: usize, v: u32)
     }
 }
 
-pub fn store_mantissa(mantissas: &mut [i64], i: usize, v: i64)
-    ensures { mantissas.new ≡ set mantissas.old i v }
+// The values of one slice to the start of another; those past its end are left out.
+pub fn copy_into<T: Copy + Drop>(from: &[T], to: &mut [T])
+    ensures { to.new ≡ sets to.old 0 from.now }
 {
-    if i < mantissas.len() {
-        mantissas[i] = v;
-    }
-}
-
-pub fn store_exponent(exponents: &mut [i32], i: usize, v: i32)
-    ensures { exponents.new ≡ set exponents.old i v }
-{
-    if i < exponents.len() {
-        exponents[i] = v;
-    }
+    let fits = from.len().min(to.len());
+    to[..fits].copy_from_slice(&from[..fits]);
 }

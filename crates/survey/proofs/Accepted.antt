@@ -1,9 +1,10 @@
 -- A file is accepted exactly when it is laid out with some items and there is room; the totals are theirs. Assumes nothing.
+use Rattle.std.specs.Prelude.{Ok, Err}
+use Rattle.layout.specs.Replies.{Reply, accepts, refuses}
 use Prim.Native.Nat.{ℕ}
 use native.Mathlib.Omega.{arith}
 use mathlib.Core.Path.{◌≡◌, refl, sym, ◌∙◌, ap}
 use mathlib.Core.List.{List}
-use Rattle.layout.specs.declared.Reply.{Reply}
 use Rattle.layout.specs.Items.{Item}
 use Rattle.layout.specs.Keeps.{Room}
 use Rattle.layout.specs.Says.{LaidText}
@@ -17,8 +18,8 @@ abbrev pub told : List Item → Reply
 told is = verdict (accepted (after_all start is) is)
 
 abbrev wanted : Reply → ℕ
-wanted (Reply.Accepted d n f c z) = 1
-wanted (Reply.Refused w k o) = 0
+wanted (Ok a) = 1
+wanted (Err b) = 0
 
 pub record Laying (room : Room) (s : List ℕ) (r : Reply) : Type 0 where
   pub items : List Item
@@ -35,7 +36,7 @@ module _ (room : Room) (s : List ℕ) where
       record { items = is; laid = (answer_of_exactly room s is).0 (q ∙ ap (λ y. accepted y is) z); says = ap (λ y. verdict (accepted y is)) z }
   by_answer (refused w k o) q e = absurd (let z : ◌≡◌ {A = ℕ} 0 1 = e in omega arith)
 
-  pub accepted_laid : (d n f c z : ℕ) → verdict (answer_of room s) ≡ Reply.Accepted d n f c z → Laying room s (Reply.Accepted d n f c z)
+  pub accepted_laid : (d n f c z : ℕ) → verdict (answer_of room s) ≡ accepts d n f c z → Laying room s (accepts d n f c z)
   accepted_laid d n f c z e =
       let l = by_answer (answer_of room s) refl (ap wanted e) in
       record { items = l.items; laid = l.laid; says = sym e ∙ l.says }

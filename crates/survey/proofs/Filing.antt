@@ -1,4 +1,6 @@
 -- A file section by section: what the loop keeps. Assumes nothing.
+use Rattle.std.specs.Prelude.{Result, Ok, Err}
+use Rattle.layout.specs.Replies.{Reply, refuses}
 use Prim.Native.Nat.{ℕ, suc, ◌+◌, ◌-◌, ◌≤◌, ◌<◌}
 use native.Mathlib.Omega.{arith}
 use native.Mathlib.Numerals.{add-one}
@@ -18,7 +20,6 @@ use Rattle.tokens.specs.contracts.Token.{the_type}
 use Rattle.tokens.proofs.Bounds.{Moved}
 use Rattle.tokens.proofs.Listed.{tokens_kind, moved}
 use Rattle.layout.specs.declared.Refusal.{Refusal}
-use Rattle.layout.specs.declared.Reply.{Reply}
 use Rattle.layout.specs.Items as Items
 use Rattle.layout.specs.Items.{Item}
 use Rattle.layout.specs.Keeps as Keeps
@@ -37,11 +38,11 @@ use Rattle.layout.proofs.Enough.{file_of_enough}
 use Rattle.spots.specs.declared.Bad.{Bad}
 use Rattle.sofar.specs.declared.State.{State}
 use Rattle.notes.specs.declared.note.Met.{Met}
-use Rattle.sections.specs.declared.section.Sect.{Sect}
-use Rattle.sofar.specs.declared.Seen as S
-use Rattle.kept.specs.Kept.{kept_of}
-use Rattle.sofar.specs.Sofar.{id_for}
-use Rattle.notes.specs.Noting.{note_state, note_id, note_first, note_last, note_place}
+use Rattle.facts.specs.declared.Taken.{Taken}
+use Rattle.std.specs.Prelude.{None}
+use Rattle.kept.specs.declared.Kept.{Kept}
+use Rattle.kept.specs.Kept.{stacked}
+use Rattle.notes.specs.Noting.{note_state, kept_as, note_kept, note_place}
 use Rattle.sections.specs.Sections.{Outline, other, outline_of, outlined, met_for, sect_view, SectAt}
 use Rattle.sofar.specs.States.{state_for}
 use Rattle.endings.specs.Endings.{verdict, last_of}
@@ -76,9 +77,9 @@ at_of (got a us) = 0
 at_of (bad w o) = o
 
 -- what a section's outline says of the section
-section_bad : (g : Got Item) (w : Refusal) (o k : ℕ) (f : Item → List Tok → Answer) → bad w o ≡ outlined g → Reply.Refused w k o ≡ verdict (onward g k f)
+section_bad : (g : Got Item) (w : Refusal) (o k : ℕ) (f : Item → List Tok → Answer) → bad w o ≡ outlined g → refuses w k o ≡ verdict (onward g k f)
 section_bad (got i us) w o k f e = absurd (let z : ◌≡◌ {A = ℕ} 1 0 = ap tag e in omega arith)
-section_bad (bad v p) w o k f e = ap (λ y. Reply.Refused y k o) (ap (why_of w) e) ∙ ap (Reply.Refused v k) (ap at_of e)
+section_bad (bad v p) w o k f e = ap (λ y. refuses y k o) (ap (why_of w) e) ∙ ap (refuses v k) (ap at_of e)
 
 record Came (g : Got Item) (o : Outline) (us : List Tok) : Type 0 where
   item : Item
@@ -99,23 +100,11 @@ few_of room before (Items.decl k h) f e = absurd (false≢true e)
 few_of room before (Items.part k h b) f e = f.few
 few_of room before Items.other f e = absurd (false≢true e)
 
-id_length : (m : Met) (z : ℕ) (l : List ℕ) → length (note_id m z l) ≡ length l
-id_length (Met.Dim n) z l = refl
-id_length (Met.Decl k h) z l = refl
-id_length (Met.Part k h) z l = length-set l z (id_for k)
-id_length Met.Other z l = refl
-
-first_length : (m : Met) (z : ℕ) (l : List ℕ) → length (note_first m z l) ≡ length l
-first_length (Met.Dim n) z l = refl
-first_length (Met.Decl k h) z l = refl
-first_length (Met.Part k h) z l = length-set l z h.first.value
-first_length Met.Other z l = refl
-
-last_length : (m : Met) (z : ℕ) (l : List ℕ) → length (note_last m z l) ≡ length l
-last_length (Met.Dim n) z l = refl
-last_length (Met.Decl k h) z l = refl
-last_length (Met.Part k h) z l = length-set l z h.last.value
-last_length Met.Other z l = refl
+kept_length : (m : Met) (z : ℕ) (l : List Kept) → length (note_kept m z l) ≡ length l
+kept_length (Met.Dim n) z l = refl
+kept_length (Met.Decl k h) z l = refl
+kept_length (Met.Part k h) z l = length-set l z (kept_as k h)
+kept_length Met.Other z l = refl
 
 place_length : (m : Met) (z p : ℕ) (l : List ℕ) → length (note_place m z p l) ≡ length l
 place_length (Met.Dim n) z p l = refl
@@ -123,45 +112,38 @@ place_length (Met.Decl k h) z p l = refl
 place_length (Met.Part k h) z p l = length-set l z p
 place_length Met.Other z p l = refl
 
-abbrev none_seen_yet : S.Seen
-none_seen_yet = record { declared = false; total = 0 }
-
 -- ---- what the loop keeps; `old` are the places at its start
-pub record Filing (s : List ℕ) (room : Keeps.Room) (old ids firsts lasts places : List ℕ) (x : State) (c k : ℕ) : Type 0 where
+pub record Filing (s : List ℕ) (room : Keeps.Room) (old : List ℕ) (kept : List Kept) (places : List ℕ) (x : State) (c k : ℕ) : Type 0 where
   pub before : List Item
-  pub seen : Seen before (state_for ids firsts lasts x)
+  pub seen : Seen before (state_for kept x)
   pub within : c ≤ length s
   pub few : k ≤ c
-  pub ids_long : length ids ≡ zones
-  pub firsts_long : length firsts ≡ zones
-  pub lasts_long : length lasts ≡ zones
+  pub kept_long : length kept ≡ zones
   pub places_long : length places ≡ length old
-  pub same : verdict (file_of (length s) room (suc (length (tokens_from s c))) (state_for ids firsts lasts x) k (tokens_from s c)) ≡ verdict (tokens_answer (length s) room (tokens_from s 0))
-  pub sites : sets places x.zones (sites_from (length s) room (suc (length (tokens_from s c))) (state_for ids firsts lasts x) (tokens_from s c)) ≡ sets old 0 (token_sites (length s) room (tokens_from s 0))
+  pub same : verdict (file_of (length s) room (suc (length (tokens_from s c))) (state_for kept x) k (tokens_from s c)) ≡ verdict (tokens_answer (length s) room (tokens_from s 0))
+  pub sites : sets places x.zones (sites_from (length s) room (suc (length (tokens_from s c))) (state_for kept x) (tokens_from s c)) ≡ sets old 0 (token_sites (length s) room (tokens_from s 0))
 
-pub nothing_kept : (ids firsts lasts : List ℕ) → state_for ids firsts lasts (record { dim = 0; nodes = none_seen_yet; cells = none_seen_yet; faces = none_seen_yet; zones = 0 }) ≡ start
-unfolding kept_of
-nothing_kept ids firsts lasts = refl
+pub nothing_kept : (kept : List Kept) → state_for kept (record { dim = 0; nodes = None; cells = None; faces = None; zones = 0 }) ≡ start
+unfolding stacked
+nothing_kept kept = refl
 
-module _ (s : List ℕ) (room : Keeps.Room) (old ids firsts lasts : List ℕ) where
-  pub filing_start : (x : State) → state_for ids firsts lasts x ≡ start → length ids ≡ zones → length firsts ≡ zones → length lasts ≡ zones → Filing s room old ids firsts lasts old x 0 0
-  filing_start x e a b c =
+module _ (s : List ℕ) (room : Keeps.Room) (old : List ℕ) (kept : List Kept) where
+  pub filing_start : (x : State) → state_for kept x ≡ start → length kept ≡ zones → Filing s room old kept old x 0 0
+  filing_start x e a =
       record {
         before = [];
         seen = subst (Seen []) (sym e) none_seen;
         within = omega arith;
         few = omega arith;
-        ids_long = a;
-        firsts_long = b;
-        lasts_long = c;
+        kept_long = a;
         places_long = refl;
         same = ap (λ y. verdict (file_of (length s) room (suc (length (tokens_from s 0))) y 0 (tokens_from s 0))) e;
         sites = ap (λ (y : St.State). sets old y.zones (sites_from (length s) room (suc (length (tokens_from s 0))) y (tokens_from s 0))) e;
       }
 
-  module _ (places : List ℕ) (x : State) (c k : ℕ) (f : Filing s room old ids firsts lasts places x c k) (t : Step) (e : t ≡ token_at s c) where
+  module _ (places : List ℕ) (x : State) (c k : ℕ) (f : Filing s room old kept places x c k) (t : Step) (e : t ≡ token_at s c) where
     abbrev here : St.State
-    here = state_for ids firsts lasts x
+    here = state_for kept x
 
     abbrev whole : Reply
     whole = verdict (tokens_answer (length s) room (tokens_from s 0))
@@ -218,15 +200,21 @@ module _ (s : List ℕ) (room : Keeps.Room) (old ids firsts lasts : List ℕ) wh
       pub ahead_here : Moved c (length s) t
       ahead_here = moved s c t Token.Left e q tt
 
-      pub filing_no : (b : Bad) {y : Sect} → SectAt s t.next.at y (outlined (section_of (length s) room here ahead)) → y ≡ Sect.No b
-          → {r : Reply} → r ≡ Reply.Refused b.why (k + 1) b.offset → (r ≡ whole) × (places ≡ found)
+      pub filing_no : (b : Bad) {y : Result (Taken Met) Bad} → SectAt s t.next.at y (outlined (section_of (length s) room here ahead)) → y ≡ Err b
+          → {r : Reply} → r ≡ refuses b.why (k + 1) b.offset → (r ≡ whole) × (places ≡ found)
       filing_no b h z w =
           let y = ap (sect_view s) (sym z) ∙ h.says in (
-            w ∙ ap (λ j. Reply.Refused b.why j b.offset) (add-one k) ∙ section_bad (section_of (length s) room here ahead) b.why b.offset (suc k) (on (length (tokens_from s c))) y ∙ at_left _ ∙ f.same,
+            w ∙ ap (λ j. refuses b.why j b.offset) (add-one k) ∙ section_bad (section_of (length s) room here ahead) b.why b.offset (suc k) (on (length (tokens_from s c))) y ∙ at_left _ ∙ f.same,
             no_more (left_sites _ ∙ sited_bad (section_of (length s) room here ahead) b.why b.offset (suc t.start) (sites_on (length (tokens_from s c))) y),
           )
 
-      module _ (m : Met) (n : ℕ) {y : Sect} (h : SectAt s t.next.at y (outlined (section_of (length s) room here ahead))) (z : y ≡ Sect.Is m n) where
+      module _ (taken : Taken Met) {y : Result (Taken Met) Bad} (h : SectAt s t.next.at y (outlined (section_of (length s) room here ahead))) (z : y ≡ Ok taken) where
+        abbrev m : Met
+        m = taken.value
+
+        abbrev n : ℕ
+        n = taken.next
+
         came : Came (section_of (length s) room here ahead) (met_for m) (tokens_from s n)
         came = section_got (section_of (length s) room here ahead) (met_for m) (tokens_from s n) (ap (sect_view s) (sym z) ∙ h.says)
 
@@ -236,9 +224,9 @@ module _ (s : List ℕ) (room : Keeps.Room) (old ids firsts lasts : List ℕ) wh
         few_now : is_part (outline_of came.item) ≡ true → x.zones < zones
         few_now p = omega (arith, few_of room f.before came.item good.1 p, f.seen.zones)
 
-        next_state : state_for (note_id m x.zones ids) (note_first m x.zones firsts) (note_last m x.zones lasts) (note_state x m) ≡ after here came.item
+        next_state : state_for (note_kept m x.zones kept) (note_state x m) ≡ after here came.item
         next_state =
-            note_is ids firsts lasts x f.ids_long f.firsts_long f.lasts_long m came.item came.says few_now
+            note_is kept x f.kept_long m came.item came.says few_now
 
         pub beyond : (c < n) × (n ≤ length s)
         beyond =
@@ -272,25 +260,20 @@ module _ (s : List ℕ) (room : Keeps.Room) (old ids firsts lasts : List ℕ) wh
             ∙ ap (λ g. sets places x.zones (sited_by g (suc t.start) (sites_on (length (tokens_from s c))))) (sym came.is)
             ∙ ap (sets places x.zones) (sym (left_sites (length (tokens_from s c)))) ∙ f.sites
 
-        pub filing_more : {a b d l : List ℕ} {y : State} → a ≡ note_id m x.zones ids → b ≡ note_first m x.zones firsts → d ≡ note_last m x.zones lasts
-            → l ≡ note_place m x.zones t.next.at places → y ≡ note_state x m → Filing s room old a b d l y n (k + 1)
-        filing_more {a} {b} {d} {l} {y} p r v u w =
-            let st : state_for a b d y ≡ after here came.item =
-            ap (λ i. state_for i b d y) p ∙ ap (λ i. state_for (note_id m x.zones ids) i d y) r
-            ∙ ap (λ i. state_for (note_id m x.zones ids) (note_first m x.zones firsts) i y) v
-            ∙ ap (state_for (note_id m x.zones ids) (note_first m x.zones firsts) (note_last m x.zones lasts)) w ∙ next_state in
+        pub filing_more : {a : List Kept} {l : List ℕ} {y : State} → a ≡ note_kept m x.zones kept
+            → l ≡ note_place m x.zones t.next.at places → y ≡ note_state x m → Filing s room old a l y n (k + 1)
+        filing_more {a} {l} {y} p u w =
+            let st : state_for a y ≡ after here came.item = ap (λ i. state_for i y) p ∙ ap (state_for (note_kept m x.zones kept)) w ∙ next_state in
             record {
               before = f.before ++ (came.item ∷ []);
               seen = subst (Seen (f.before ++ (came.item ∷ []))) (sym st) then;
               within = beyond.1;
               few = omega (arith, f.few, beyond.0);
-              ids_long = ap length p ∙ id_length m x.zones ids ∙ f.ids_long;
-              firsts_long = ap length r ∙ first_length m x.zones firsts ∙ f.firsts_long;
-              lasts_long = ap length v ∙ last_length m x.zones lasts ∙ f.lasts_long;
+              kept_long = ap length p ∙ kept_length m x.zones kept ∙ f.kept_long;
               places_long = ap length u ∙ place_length m x.zones t.next.at places ∙ f.places_long;
               same = ap (λ i. verdict (file_of (length s) room (suc (length (tokens_from s n))) i (k + 1) (tokens_from s n))) st
                   ∙ ap (λ i. verdict (file_of (length s) room (suc (length (tokens_from s n))) (after here came.item) i (tokens_from s n))) (add-one k) ∙ same_on;
-              sites = ap (λ i. sets i y.zones (sites_from (length s) room (suc (length (tokens_from s n))) (state_for a b d y) (tokens_from s n))) u
-                  ∙ ap (λ (i : State). sets (note_place m x.zones t.next.at places) i.zones (sites_from (length s) room (suc (length (tokens_from s n))) (state_for a b d y) (tokens_from s n))) w
+              sites = ap (λ i. sets i y.zones (sites_from (length s) room (suc (length (tokens_from s n))) (state_for a y) (tokens_from s n))) u
+                  ∙ ap (λ (i : State). sets (note_place m x.zones t.next.at places) i.zones (sites_from (length s) room (suc (length (tokens_from s n))) (state_for a y) (tokens_from s n))) w
                   ∙ ap (λ i. sets (note_place m x.zones t.next.at places) (note_state x m).zones (sites_from (length s) room (suc (length (tokens_from s n))) i (tokens_from s n))) st ∙ sites_on_lem;
             }

@@ -1,4 +1,5 @@
 -- What must hold of the length of a file. Assumes nothing.
+use Rattle.layout.specs.Replies.{Reply, refuses}
 use Prim.Native.Nat.{ℕ, ◌≤◌, ◌<◌}
 use mathlib.Core.Path.{◌≡◌, sym, ◌∙◌, ap}
 use mathlib.Core.List.{List, []}
@@ -9,7 +10,6 @@ use lib.Seq.{sets}
 use Rattle.sizes.specs.Sizes.{file_bytes, zones}
 use Rattle.tokens.specs.Listed.{tokens_from}
 use Rattle.layout.specs.declared.Refusal.{Refusal}
-use Rattle.layout.specs.declared.Reply.{Reply}
 use Rattle.layout.specs.Keeps as Keeps
 use Rattle.layout.specs.Read.{refused, tokens_answer, answer_of}
 use Rattle.endings.specs.Endings.{verdict}
@@ -19,7 +19,7 @@ module _ (s : List ℕ) (room : Keeps.Room) where
   abbrev picked : Bool → Reply
   picked b = verdict (elim b [ true ↦ tokens_answer (length s) room (tokens_from s 0) | false ↦ refused Refusal.TooLong 0 0 ])
 
-  pub too_long : file_bytes < length s → {r : Reply} → r ≡ Reply.Refused Refusal.TooLong 0 0 → r ≡ verdict (answer_of room s)
+  pub too_long : file_bytes < length s → {r : Reply} → r ≡ refuses Refusal.TooLong 0 0 → r ≡ verdict (answer_of room s)
   unfolding answer_of
   too_long l e = e ∙ ap picked (sym (lt-leb (length s) file_bytes l))
 

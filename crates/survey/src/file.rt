@@ -11,18 +11,17 @@ ghost use Rattle.endings.specs.Endings.{verdict};
 ghost use Rattle.survey.specs.Sites.{token_sites, places_of};
 
 use endings::last_of;
-use layout::{Refusal, Reply};
+use kept::Kept;
+use layout::{Accepted, Refusal, Refused};
 use notes::{keep, noted};
-use sections::{Sect, section_at};
-use sofar::{Room, Seen, State};
+use sections::section_at;
+use sofar::{Room, State};
 use tokens::{Cursor, Step, Token};
-
-const LEFT: u8 = 40;
 
 // What reading a file answers, and the place behind the `(` of each regular section that was met, in order.
 #[derive(Clone, Copy)]
 pub struct Located {
-    pub reply: Reply,
+    pub reply: Result<Accepted, Refused>,
     pub places: [u32; 64],
 }
 
@@ -33,7 +32,7 @@ fn token_at(s: &[u8], at: usize) -> Step
     let start = (Cursor { at }).start(s);
     if start < s.len() {
         let b = s[start];
-        if b == LEFT {
+        if b == b'(' {
             let behind = start + 1;
             return Step {
                 token: Token::Left,
@@ -45,27 +44,22 @@ fn token_at(s: &[u8], at: usize) -> Step
     (Cursor { at }).token(s)
 }
 
-// The sections of a file that is not too long, from its first byte. The four slices hold what was met of the regular ones.
+// The sections of a file that is not too long, from its first byte. The two slices hold what was met of the regular ones.
+// No `for`: a section begins where the one before it ended.
 fn file_from(
     s: &[u8],
     room: Room,
-    ids: &mut [u32],
-    firsts: &mut [u32],
-    lasts: &mut [u32],
+    kept: &mut [Kept],
     places: &mut [u32],
-) -> Reply
-    requires { (length s.now ≤ file_bytes) × ((length ids.old ≡ zones) × ((length firsts.old ≡ zones) × (length lasts.old ≡ zones))) }
+) -> Result<Accepted, Refused>
+    requires { (length s.now ≤ file_bytes) × (length kept.old ≡ zones) }
     ensures { (result ≡ verdict (tokens_answer (length s.now) (room_all room) (tokens_from s.now 0))) × (places.new ≡ sets places.old 0 (token_sites (length s.now) (room_all room) (tokens_from s.now 0))) }
 {
-    let none = Seen {
-        declared: false,
-        total: 0,
-    };
     let mut x = State {
         dim: 0,
-        nodes: none,
-        cells: none,
-        faces: none,
+        nodes: None,
+        cells: None,
+        faces: None,
         zones: 0,
     };
     let mut c: usize = 0;
@@ -76,26 +70,23 @@ fn file_from(
         let start = t.start;
         let next = t.next.at;
         let Token::Left = kind else {
-            return last_of(kind, start, x, ids, firsts, lasts, k, s.len());
+            return last_of(kind, start, x, kept, k, s.len());
         };
         k += 1;
-        let r = section_at(s, next, x, room, ids, firsts, lasts);
-        match r {
-            Sect::No(bad) => {
-                let why = bad.why;
-                let offset = bad.offset;
-                return Reply::Refused {
-                    why,
+        match section_at(s, next, x, room, kept) {
+            Err(bad) => {
+                return Err(Refused {
+                    why: bad.why,
                     section: k,
-                    offset,
-                };
+                    offset: bad.offset,
+                });
             }
-            Sect::Is { met, next: to } => {
+            Ok(met) => {
                 let z = x.zones;
                 let place = next as u32;
-                keep(ids, firsts, lasts, places, z, met, place);
-                x = noted(x, met);
-                c = to;
+                keep(kept, places, z, met.value, place);
+                x = noted(x, met.value);
+                c = met.next;
             }
         }
     }
@@ -108,25 +99,25 @@ pub fn locate(s: &[u8], room: Room) -> Located
     let mut places: [u32; 64] = [0; 64];
     let too_long = sizes::FILE_BYTES < s.len();
     if too_long {
-        let reply = Reply::Refused {
+        let reply = Err(Refused {
             why: Refusal::TooLong,
             section: 0,
             offset: 0,
-        };
+        });
         return Located { reply, places };
     }
-    let mut ids: [u32; 64] = [0; 64];
-    let mut firsts: [u32; 64] = [0; 64];
-    let mut lasts: [u32; 64] = [0; 64];
-    let reply = file_from(s, room, &mut ids, &mut firsts, &mut lasts, &mut places);
+    let mut kept = [Kept {
+        id: 0,
+        first: 0,
+        last: 0,
+    }; 64];
+    let reply = file_from(s, room, &mut kept, &mut places);
     Located { reply, places }
 }
 
 // The answer alone.
-pub fn survey(s: &[u8], room: Room) -> Reply
+pub fn survey(s: &[u8], room: Room) -> Result<Accepted, Refused>
     ensures { shown result ≡ shown (verdict (answer_of (room_all room) s.now)) }
 {
-    let found = locate(s, room);
-    let reply = found.reply;
-    reply
+    locate(s, room).reply
 }

@@ -6,12 +6,12 @@ use lib.ListN.{replicate}
 use lib.Seq.{sets}
 use Rattle.mesh.specs.declared.Zone.{Zone}
 use Rattle.mesh.specs.Rows.{node_words}
-use Rattle.ranges.specs.declared.Limit.{Limit}
+use Rattle.std.specs.Prelude.{Some}
 use Rattle.tables.specs.Places.{words_of, room_from}
 use Rattle.tables.proofs.places.rows_before.Reads as before
 
 -- `room_for`: cell rows as wide as node rows
-room_for_lem : ((room_from 9 9 16 6 1).cells ≡ Limit.Most 3) × (Limit.Most (6 / node_words) ≡ Limit.Most 2)
+room_for_lem : ((room_from 9 9 16 6 1).cells ≡ Some 3) × (Some (6 / node_words) ≡ Some 2)
 room_for_lem = (refl, refl)
 
 -- `rows_before`: indices from 0

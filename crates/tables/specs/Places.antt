@@ -1,9 +1,8 @@
 -- What is lent, in whole rows, and a zone record in words. Assumes nothing.
-use Rattle.std.specs.Prelude.{ℕ, ◌/◌, min, List, [], ◌∷◌}
+use Rattle.std.specs.Prelude.{ℕ, ◌/◌, min, List, [], ◌∷◌, Some}
 use Rattle.mesh.specs.declared.Zone.{Zone}
 use Rattle.mesh.specs.Rows.{places, face_words, cell_words, node_words}
 use Rattle.sofar.specs.declared.Room.{Room}
-use Rattle.ranges.specs.declared.Limit.{Limit}
 
 -- six words a record: section id, zone, first, last, type, element
 abbrev pub words_of : Zone → List ℕ
@@ -13,8 +12,8 @@ words_of z = z.section ∷ z.zone ∷ z.first ∷ z.last ∷ z.ztype ∷ z.eleme
 abbrev pub room_from : ℕ → ℕ → ℕ → ℕ → ℕ → Room
 room_from m e f c n =
     record {
-      nodes = Limit.Most (min (m / node_words) (e / node_words));
-      cells = Limit.Most (c / cell_words);
-      faces = Limit.Most (f / face_words places);
-      zones = Limit.Most n;
+      nodes = Some (min (m / node_words) (e / node_words));
+      cells = Some (c / cell_words);
+      faces = Some (f / face_words places);
+      zones = Some n;
     }

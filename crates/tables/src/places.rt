@@ -10,11 +10,7 @@ use stores::store;
 pub fn rows_before(first: u32) -> usize
     ensures { result ≡ first - 1 }
 {
-    if first == 0 {
-        return 0;
-    }
-    let before = first - 1;
-    before as usize
+    first.saturating_sub(1) as usize
 }
 
 // A record behind the z that are in the list, six words each. Behind the end nothing is stored; the test keeps the place from wrapping.
@@ -24,16 +20,15 @@ pub fn put_record(list: &mut [u32], z: usize, zone: Zone)
     if list.len() < z {
         return;
     }
-    let k = 6 * z;
-    let k1 = k + 1;
-    let k2 = k + 2;
-    let k3 = k + 3;
-    let k4 = k + 4;
-    let k5 = k + 5;
-    store(list, k, zone.section);
-    store(list, k1, zone.zone);
-    store(list, k2, zone.first);
-    store(list, k3, zone.last);
-    store(list, k4, zone.ztype);
-    store(list, k5, zone.element);
+    let words = [
+        zone.section,
+        zone.zone,
+        zone.first,
+        zone.last,
+        zone.ztype,
+        zone.element,
+    ];
+    for (i, word) in words.iter().enumerate() {
+        store(list, 6 * z + i, *word);
+    }
 }

@@ -1,11 +1,10 @@
-mod Laws
+pub mod Laws
 pub mod Runner
 pub mod Ended
 pub mod Bounds
 pub mod Listed
 pub mod Marks
 pub mod Marked
-pub mod Passing
 pub mod Blanked
 mod Runs
 mod TextOf

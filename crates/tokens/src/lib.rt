@@ -5,7 +5,7 @@ ghost use Rattle.std.specs.Prelude.{◌≡◌};
 ghost use Rattle.tokens.specs.Tokens.{is_blank, class_of, goes_on, run_at, start_of, mark_of, ends_word, step_of, text_to, token_of, token_at};
 
 // What a byte is to the tokeniser.
-#[derive(Clone, Copy)]
+#[derive(Clone, Copy, Debug, PartialEq, Eq)]
 pub enum Class {
     Blank,
     Left,
@@ -15,7 +15,7 @@ pub enum Class {
 }
 
 // What a run of bytes is made of.
-#[derive(Clone, Copy)]
+#[derive(Clone, Copy, Debug, PartialEq, Eq)]
 pub enum Run {
     Blanks,
     Word,
@@ -24,7 +24,7 @@ pub enum Run {
 }
 
 // What stands at a place of the file. An unclosed string is a token of its own sort.
-#[derive(Clone, Copy)]
+#[derive(Clone, Copy, Debug, PartialEq, Eq)]
 pub enum Token {
     Left,
     Right,
@@ -35,13 +35,13 @@ pub enum Token {
 }
 
 // A place in the file. Any number is allowed, one past the end too.
-#[derive(Clone, Copy)]
+#[derive(Clone, Copy, Debug, Default, PartialEq, Eq)]
 pub struct Cursor {
     pub at: usize,
 }
 
 // A token, where it starts, and the cursor behind it.
-#[derive(Clone, Copy)]
+#[derive(Clone, Copy, Debug, PartialEq, Eq)]
 pub struct Step {
     pub token: Token,
     pub start: usize,
@@ -51,7 +51,8 @@ pub struct Step {
 pub fn is_blank(b: u8) -> bool
     ensures { result ≡ is_blank b }
 {
-    b == 32 || b == 9 || b == 10 || b == 13
+    // Not by `matches!`: that is compiled to more branches.
+    b == b' ' || b == b'\t' || b == b'\n' || b == b'\r'
 }
 
 fn class_of(b: u8) -> Class
@@ -60,13 +61,14 @@ fn class_of(b: u8) -> Class
     if is_blank(b) {
         return Class::Blank;
     }
-    if b == 40 {
+    // Not by `match`, as above.
+    if b == b'(' {
         return Class::Left;
     }
-    if b == 41 {
+    if b == b')' {
         return Class::Right;
     }
-    if b == 34 {
+    if b == b'"' {
         return Class::Quote;
     }
     Class::Other
@@ -75,20 +77,11 @@ fn class_of(b: u8) -> Class
 fn goes_on(k: Run, c: Class) -> bool
     ensures { result ≡ goes_on k c }
 {
-    match c {
-        Class::Blank => match k {
-            Run::Word => false,
-            Run::Blanks | Run::Text | Run::Plain => true,
-        },
-        Class::Left | Class::Right => match k {
-            Run::Text => true,
-            Run::Blanks | Run::Word | Run::Plain => false,
-        },
-        Class::Quote => false,
-        Class::Other => match k {
-            Run::Blanks => false,
-            Run::Word | Run::Text | Run::Plain => true,
-        },
+    match k {
+        Run::Blanks => matches!(c, Class::Blank),
+        Run::Word => matches!(c, Class::Other),
+        Run::Text => !matches!(c, Class::Quote),
+        Run::Plain => matches!(c, Class::Blank | Class::Other),
     }
 }
 
@@ -96,15 +89,12 @@ fn goes_on(k: Run, c: Class) -> bool
 fn run_end(s: &[u8], at: usize, k: Run) -> usize
     ensures { result ≡ run_at k s.now at }
 {
-    let mut i = at;
-    while i < s.len() {
-        if goes_on(k, class_of(s[i])) {
-            i += 1;
-        } else {
+    for i in at..s.len() {
+        if !goes_on(k, class_of(s[i])) {
             return i;
         }
     }
-    i
+    at.max(s.len())
 }
 
 fn step_of(token: Token, start: usize, at: usize) -> Step

@@ -4,7 +4,8 @@ use native.Mathlib.Nat.{lt_of_lt_of_le, pow-le-pow_right}
 use native.Mathlib.Omega.{arith}
 use mathlib.Core.Path.{◌≡◌, refl, sym, ap, subst, ◌∙◌}
 use mathlib.Core.List.{List, ◌++◌}
-use mathlib.Core.Bool.{Bool, true, false}
+use Rattle.std.specs.Prelude.{Option, Some, None}
+use mathlib.Core.Bool.{true, false}
 use borrow.Author.Tests.{le-leb, lt-leb}
 use lib.Dec.{lit<}
 use lib.ListN.{length, take, drop, get_or, length-take, length-drop}
@@ -25,33 +26,16 @@ use Rattle.twos.specs.Twos.{two_by, two_of, Inside, TwoSays, TwoAt}
 use Rattle.quick.proofs.Near.{near_starts}
 use Rattle.quick.proofs.Knowing.{known_from}
 
--- ---- of a couple that is found
-module _ (s : List ℕ) (i : ℕ) (c : Couple) (f v g e : ℕ) (q : c ≡ Couple.Is f v g e) where
-  pub inside_is : Inside s i c → Inside s i (Couple.Is f v g e)
-  inside_is h = subst (Inside s i) q h
-
-  abbrev pick : Bool → Two
-  pick t = elim t [ true ↦ Two.Is f v (i + e) | false ↦ Two.Not ]
-
-  picked : (t : Bool) → is_blank (get_or s (i + g) 0) ≡ t → pick t ≡ two_by s i c
-  picked t b = sym (ap (two_by s i) q ∙ ap pick b)
-
-  pub two_parted : is_blank (get_or s (i + g) 0) ≡ true → Two.Is f v (i + e) ≡ two_by s i c
-  two_parted b = picked true b
-
-  pub two_joined : is_blank (get_or s (i + g) 0) ≡ false → Two.Not ≡ two_by s i c
-  two_joined b = picked false b
-
 -- ---- no two
 module _ (s : List ℕ) (at : ℕ) where
-  none_at : Two.Not ≡ two_of s at → TwoAt s at Two.Not
+  none_at : None ≡ two_of s at → TwoAt s at None
   none_at e = record { same = e; says = tt }
 
-  pub two_short : length s < at + 9 → TwoAt s at Two.Not
+  pub two_short : length s < at + 9 → TwoAt s at None
   unfolding two_of
   two_short l = none_at (rw (lt-leb (at + 9) (length s) l, two_of) refl)
 
-  pub two_solid : at + 9 ≤ length s → is_blank (get_or s at 0) ≡ false → TwoAt s at Two.Not
+  pub two_solid : at + 9 ≤ length s → is_blank (get_or s at 0) ≡ false → TwoAt s at None
   unfolding two_of
   two_solid l b = none_at (rw (le-leb (at + 9) (length s) l, b, two_of) refl)
 
@@ -74,7 +58,7 @@ module _ (s : List ℕ) (at : ℕ) (l : at + 9 ≤ length s) where
     small : (u : List ℕ) (k : ℕ) → (digits_in 16 0 0 u).count ≡ k → k ≤ 8 → (digits_in 16 0 0 u).value < 2 ^ 32
     small u k h m = let few : (digits_in 16 0 0 u).count ≤ 8 = omega (arith, h, m) in lt_of_lt_of_le (digits_in_below 16 u 0 0 (lit< tt)) (pow-le-pow_right (lit< tt) few)
 
-    couple_inside : Inside s (at + 1) (Couple.Is f v g e)
+    couple_inside : Inside s (at + 1) (record { first = f; second = v; gap = g; end = e })
     couple_inside = (
       omega (arith, l),
       omega (arith, c.more, c.few),
@@ -129,26 +113,23 @@ module _ (s : List ℕ) (at : ℕ) (l : at + 9 ≤ length s) where
         ∙ ap (λ (k : ℕ). record { value = v; next = k }) n
 
   module _ (b : is_blank (get_or s at 0) ≡ true) where
-    by_couple : (c : Couple) → CoupledBy w c → TwoSays s at (two_by s (at + 1) c)
-    by_couple (Couple.Is f v g e) p =
-        either (TwoSays s at) (is_blank (get_or s (at + 1 + g) 0)) (λ q. (at + 1 + g, known_first f v g e p b, known_second f v g e p q)) (λ _. tt)
-    by_couple Couple.Not p = tt
+    by_couple : (c : Option Couple) → CoupledBy w c → TwoSays s at (two_by s (at + 1) c)
+    by_couple (Some c) p =
+        either (TwoSays s at) (is_blank (get_or s (at + 1 + c.gap) 0))
+        (λ q. (at + 1 + c.gap, known_first c.first c.second c.gap c.end p b, known_second c.first c.second c.gap c.end p q)) (λ _. tt)
+    by_couple None p = tt
 
-    inside_by : (c : Couple) → CoupledBy w c → Inside s (at + 1) c
-    inside_by (Couple.Is f v g e) p = couple_inside f v g e p
-    inside_by Couple.Not p = tt
-
-    module _ (x : ℕ) (h : Laned w x) (c : Couple) (k : c ≡ couple_of x) where
-      couple_found : CoupledBy w c
+    module _ (x : ℕ) (h : Laned w x) (o : Option Couple) (k : o ≡ couple_of x) where
+      couple_found : CoupledBy w o
       couple_found = subst (CoupledBy w) (sym k) (couple_says w x h eight)
 
-      pub two_inside : Inside s (at + 1) c
-      two_inside = inside_by c couple_found
+      pub two_inside : (c : Couple) → o ≡ Some c → Inside s (at + 1) c
+      two_inside c e = couple_inside c.first c.second c.gap c.end (subst (CoupledBy w) e couple_found)
 
-      pub two_found : (r : Two) → r ≡ two_by s (at + 1) c → TwoAt s at r
+      pub two_found : (r : Option Two) → r ≡ two_by s (at + 1) o → TwoAt s at r
       unfolding two_of
       two_found r e =
           record {
-            same = e ∙ ap (λ (y : Couple). two_by s (at + 1) y) (k ∙ ap couple_of h.same) ∙ rw (le-leb (at + 9) (length s) l, b, two_of) refl;
-            says = subst (TwoSays s at) (sym e) (by_couple c couple_found);
+            same = e ∙ ap (λ (y : Option Couple). two_by s (at + 1) y) (k ∙ ap couple_of h.same) ∙ rw (le-leb (at + 9) (length s) l, b, two_of) refl;
+            says = subst (TwoSays s at) (sym e) (by_couple o couple_found);
           }

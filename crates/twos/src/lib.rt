@@ -1,7 +1,7 @@
 // Two number words of a file that is known to be good, in one look at eight bytes: where words are short, both stand there.
 #![tactic(auto)]
 
-ghost use Rattle.std.specs.Prelude.{◌≡◌};
+ghost use Rattle.std.specs.Prelude.{◌≡◌, Some};
 ghost use Rattle.twos.specs.Twos.{two_by, Inside, TwoAt};
 
 use digits::Couple;
@@ -10,64 +10,49 @@ use digits::Couple;
 const NEAR_BYTES: usize = 9;
 
 // The values of two hexadecimal words, one behind the other, and the place behind the second.
-#[derive(Clone, Copy)]
-pub enum Two {
-    Is {
-        first: u32,
-        second: u32,
-        next: usize,
-    },
-    Not,
+#[derive(Clone, Copy, Debug, PartialEq, Eq)]
+pub struct Two {
+    pub first: u32,
+    pub second: u32,
+    pub next: usize,
 }
 
-fn two_of(s: &[u8], from: usize, c: Couple) -> Two
+fn two_of(s: &[u8], from: usize, c: Couple) -> Option<Two>
     requires { Inside s.now from c }
-    ensures { result ≡ two_by s.now from c }
+    ensures { result ≡ two_by s.now from (Some c) }
 {
-    match c {
-        Couple::Is {
-            first: one,
-            second: other,
-            gap,
-            end,
-        } => {
-            let near = gap as usize;
-            let middle = from + near;
-            let blank = tokens::is_blank(s[middle]);
-            if blank {
-                let far = end as usize;
-                let next = from + far;
-                let first = one as u32;
-                let second = other as u32;
-                return Two::Is {
-                    first,
-                    second,
-                    next,
-                };
-            }
-            Two::Not
-        }
-        Couple::Not => Two::Not,
+    let gap = c.gap as usize;
+    let middle = from + gap;
+    if !tokens::is_blank(s[middle]) {
+        return None;
     }
+    let end = c.end as usize;
+    let next = from + end;
+    let first = c.first as u32;
+    let second = c.second as u32;
+    Some(Two {
+        first,
+        second,
+        next,
+    })
 }
 
-pub fn known_two(s: &[u8], at: usize) -> Two
+pub fn known_two(s: &[u8], at: usize) -> Option<Two>
     ensures { TwoAt s.now at result }
 {
     let size = s.len();
     if size < NEAR_BYTES {
-        return Two::Not;
+        return None;
     }
     let last = size - NEAR_BYTES;
     if last < at {
-        return Two::Not;
+        return None;
     }
-    let blank = tokens::is_blank(s[at]);
-    if blank {
-        let from = at + 1;
-        let x = digits::bytes_at(s, from);
-        let c = digits::couple_in(x);
-        return two_of(s, from, c);
+    if !tokens::is_blank(s[at]) {
+        return None;
     }
-    Two::Not
+    let from = at + 1;
+    let x = digits::bytes_at(s, from);
+    let c = digits::couple_in(x)?;
+    two_of(s, from, c)
 }

@@ -1,5 +1,6 @@
 -- [01:Both sides of each line], the cases marked P, in one table. To be believed: all of this file. Assumes nothing.
-use Rattle.std.specs.Prelude.{ℕ, List, [], ◌∷◌, pos, negsuc, replicate}
+use Rattle.decimals.specs.Coordinate.{decimal}
+use Rattle.std.specs.Prelude.{ℕ, List, [], ◌∷◌, pos, negsuc, replicate, Option, None}
 use Prim.Native.String.{String}
 use Rattle.facts.specs.Text.{bytes}
 use Rattle.decimals.specs.declared.decimal.Decimal.{Decimal}
@@ -14,14 +15,14 @@ pub data Case : Type 0 where
   -- a file that is refused, with number, section and offset
   file : String → ℕ → ℕ → ℕ → Case
   -- a coordinate word, and what is kept of it
-  coordinate : String → Decimal → Case
+  coordinate : String → Option Decimal → Case
   -- a file, the room of the list, and what the audit of its tables answers and leaves
   audited : String → ℕ → Out → Case
 
 -- what a case comes to
 pub data Answer : Type 0 where
   read : Outcome → Answer
-  kept : Decimal → Answer
+  kept : Option Decimal → Answer
   listed : Out → Answer
 
 -- room for four nodes, three faces, two cells, three zones, filled with nines
@@ -60,14 +61,14 @@ table =
     ∷ file "(2 2)(2 3)" 10 2 8
     ∷ file "(2010" 4 1 1
     -- "P `1.50000000e-01` is 15, −2."
-    ∷ coordinate "1.50000000e-01" (Decimal.Is (pos 15) (negsuc 1))
+    ∷ coordinate "1.50000000e-01" (decimal (pos 15) (negsuc 1))
     -- "P `-0.0` is 0, 0."
-    ∷ coordinate "-0.0" (Decimal.Is (pos 0) (pos 0))
+    ∷ coordinate "-0.0" (decimal (pos 0) (pos 0))
     -- "P `10e400` is Number; `1e400` is 1, 400; `0e999` is 0, 0.": no number, and in a file refusal 3
-    ∷ coordinate "10e400" Decimal.Not
+    ∷ coordinate "10e400" None
     ∷ file "(10 (0 1 1 0 2))(10 (1 1 1 1)(10e400 0))" 3 2 30
-    ∷ coordinate "1e400" (Decimal.Is (pos 1) (pos 400))
-    ∷ coordinate "0e999" (Decimal.Is (pos 0) (pos 0))
+    ∷ coordinate "1e400" (decimal (pos 1) (pos 400))
+    ∷ coordinate "0e999" (decimal (pos 0) (pos 0))
     -- "P the faulty input's list is 14 bytes"
     ∷ audited faulty 14 (out (values 0 3 14) (2 ∷ 9 ∷ []) (2 ∷ 0 ∷ 3 ∷ 1 ∷ 4 ∷ 0 ∷ 3 ∷ 1 ∷ 9 ∷ 0 ∷ 1 ∷ 0 ∷ 0 ∷ 2 ∷ []))
     -- "P with room 13, 8 are written"

@@ -10,15 +10,12 @@ use Rattle.tokens.specs.declared.Cursor.{Cursor}
 use Rattle.tokens.specs.declared.Step.{Step}
 use Rattle.tokens.specs.Tokens.{token_at}
 use Rattle.tokens.proofs.Bounds.{solid, Moved, token_moves}
-use Rattle.wordlist.specs.declared.Turn.{Turn}
+use Rattle.std.specs.Prelude.{Some}
 use Rattle.wordlist.specs.Turn.{Ahead}
 
 module _ (s : List ℕ) (at : ℕ) (t : Step) (k : Token) (e : t ≡ token_at s at) (told : t.token ≡ k) (h : T (solid k)) where
   pub moved : Moved at (length s) t
   moved = rw e (token_moves s at (rw (sym e) (rw told h)))
 
-  pub goes_ahead : Ahead at (length s) (Turn.Go t.next)
+  pub goes_ahead : Ahead at (length s) (Some t.next)
   goes_ahead = let m = moved in (omega (arith, m.from, m.more), m.most)
-
-pub ahead_less : (at size : ℕ) (r : Turn) (c : Cursor) → Ahead at size r → r ≡ Turn.Go c → size - c.at < size - at
-ahead_less at size r c a e = let h = rw e at a in omega (arith, h.0, h.1)

@@ -6,7 +6,6 @@ ghost use Rattle.std.specs.Prelude.{length, IfOk};
 ghost use Rattle.wordlist.specs.Turn.{Ahead};
 
 use decimals::Decimal;
-use numbers::Whole;
 use std::alloc::Global;
 use std::fs::File;
 use std::io::{BufWriter, Read, Write};
@@ -17,24 +16,17 @@ use tokens::{Cursor, Token};
 // Input over this many bytes is not listed.
 const MOST: usize = 65536;
 
-// Whether more stands behind a token, and from where on.
-#[derive(Clone, Copy)]
-enum Turn {
-    Go(Cursor),
-    Done,
-}
-
-fn put_whole(out: &mut impl Write, k: Whole) -> io::Result<()> {
+fn put_whole(out: &mut impl Write, k: Option<u32>) -> io::Result<()> {
     match k {
-        Whole::Is(v) => write!(out, "{v}"),
-        Whole::Not => write!(out, "-"),
+        Some(v) => write!(out, "{v}"),
+        None => write!(out, "-"),
     }
 }
 
-fn put_decimal(out: &mut impl Write, d: Decimal) -> io::Result<()> {
+fn put_decimal(out: &mut impl Write, d: Option<Decimal>) -> io::Result<()> {
     match d {
-        Decimal::Is { mantissa, exponent } => write!(out, "{mantissa} {exponent}"),
-        Decimal::Not => write!(out, "-"),
+        Some(d) => write!(out, "{} {}", d.mantissa, d.exponent),
+        None => write!(out, "-"),
     }
 }
 
@@ -51,8 +43,8 @@ fn put_word(out: &mut impl Write, w: &[u8]) -> io::Result<()> {
     writeln!(out)
 }
 
-// The line of the first token at or behind the cursor.
-fn put_token(out: &mut impl Write, s: &[u8], c: Cursor) -> io::Result<Turn>
+// The line of the first token at or behind the cursor. Answers where more may stand, if it may.
+fn put_token(out: &mut impl Write, s: &[u8], c: Cursor) -> io::Result<Option<Cursor>>
     ensures { IfOk result (λ turn. Ahead c.at (length s.now) turn) }
 {
     let t = c.token(s);
@@ -66,24 +58,22 @@ fn put_token(out: &mut impl Write, s: &[u8], c: Cursor) -> io::Result<Turn>
         Token::Word => put_word(out, &s[start..next.at])?,
         Token::Unclosed => {
             writeln!(out, "unclosed")?;
-            return Ok(Turn::Done);
+            return Ok(None);
         }
         Token::End => {
             writeln!(out, "end")?;
-            return Ok(Turn::Done);
+            return Ok(None);
         }
     }
-    Ok(Turn::Go(next))
+    Ok(Some(next))
 }
 
 fn put_tokens(out: &mut impl Write, s: &[u8]) -> io::Result<()> {
     let mut c = Cursor::new();
-    loop {
-        let Turn::Go(next) = put_token(out, s, c)? else {
-            return Ok(());
-        };
+    while let Some(next) = put_token(out, s, c)? {
         c = next;
     }
+    Ok(())
 }
 
 // Is there more behind the bytes that were read?

@@ -10,5 +10,4 @@ pub mod RowTests
 pub mod NodeTests
 pub mod Answers
 pub mod Laid
-pub mod FlatVal
 pub mod Only

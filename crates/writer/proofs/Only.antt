@@ -3,6 +3,7 @@ use Prim.Native.Nat.{ℕ}
 use native.Mathlib.Omega.{arith}
 use mathlib.Core.Path.{◌≡◌, refl, sym, ap, ◌∙◌}
 use mathlib.Core.List.{List}
+use Rattle.std.specs.Prelude.{Result, Ok, Err}
 use seplogic.Ra.Ura.{Ura}
 use base.Logic.{SProp}
 use prog.Memory.{Memory}
@@ -12,13 +13,14 @@ use contract.Lifetimes.{Lfts}
 use contract.Monad.{Fun, fact}
 use denote.Triple.Entry.{Args, Res}
 use denote.Triple.Clauses.{AtExit}
+use Rattle.facts.specs.Only.{Only}
 use Rattle.facts.specs.OnlyLeft.{OnlyLeft}
 use Rattle.layout.specs.Rows.{Lent}
 use Rattle.texts.specs.Write.{Values, Out, out, mesh_of, write_of}
 use Rattle.writer.specs.declared.answer.Refusal.{Refusal}
-use Rattle.writer.specs.declared.answer.Written.{Written}
 use Rattle.writer.specs.Writer.{number_of, values_of, lent}
 use Rattle.writer.proofs.answer.write_flat.Reads as flat_reads
+use Rattle.writer.proofs.answer.U32FromRefusal.from.Reads as from
 use Rattle.writer.specs.contracts.zones.write as write
 
 -- an answer is known by its number and its length
@@ -32,14 +34,17 @@ refused : (r : Refusal) → 0 ≡ number_of r → ⊥
 refused Refusal.Unwritable e = omega arith
 refused Refusal.TextRoom e = omega arith
 
-values_only : (r s : Written) → values_of r ≡ values_of s → r ≡ s
-values_only (Written.Done b) (Written.Done c) e = ap Written.Done (ap (λ (v : Values). v.bytes) e)
-values_only (Written.Done b) (Written.Refused s) e = absurd (refused s (ap (λ (v : Values). v.number) e))
-values_only (Written.Refused r) (Written.Done c) e = absurd (refused r (sym (ap (λ (v : Values). v.number) e)))
-values_only (Written.Refused r) (Written.Refused s) e = ap Written.Refused (number_only r s (ap (λ (v : Values). v.number) e))
+values_only : (r s : Result ℕ Refusal) → values_of r ≡ values_of s → r ≡ s
+values_only (Ok b) (Ok c) e = ap Ok (ap (λ (v : Values). v.bytes) e)
+values_only (Ok b) (Err s) e = absurd (refused s (ap (λ (v : Values). v.number) e))
+values_only (Err r) (Ok c) e = absurd (refused r (sym (ap (λ (v : Values). v.number) e)))
+values_only (Err r) (Err s) e = ap Err (number_only r s (ap (λ (v : Values). v.number) e))
 
-out_only : (r s : Written) (x y : List ℕ) → ◌≡◌ {A = Out} (out (values_of r) x) (out (values_of s) y) → (r ≡ s) × (x ≡ y)
+out_only : (r s : Result ℕ Refusal) (x y : List ℕ) → ◌≡◌ {A = Out} (out (values_of r) x) (out (values_of s) y) → (r ≡ s) × (x ≡ y)
 out_only r s x y e = (values_only r s (ap (λ (o : Out). o.answer) e), ap (λ (o : Out). o.text) e)
+
+pub from_only : Only from.Post
+from_only κ a r r' x x' p q = p ∙ sym q
 
 pub write_flat_only : OnlyLeft (λ κ x. x.1.1.1.1.1.1.1.1.1.0.now) flat_reads.Post
 write_flat_only κ a r r' x x' p q = out_only r r' _ _ (p ∙ sym q)

@@ -1,83 +1,85 @@
 -- Sections, put piece by piece; they are the text of their items. Assumes nothing.
-use Prim.Native.Nat.{ℕ, zero, suc, ◌+◌, ◌-◌, ◌*◌, ◌≤◌, ◌<◌}
+use Prim.Native.Nat.{ℕ, zero, suc, ◌+◌, ◌-◌, ◌*◌, ◌/◌, ◌≤◌, ◌<◌}
 use native.Mathlib.Omega.{arith}
 use mathlib.Core.Path.{◌≡◌, refl, sym, ◌∙◌, ap, subst}
 use mathlib.Core.List.{List, [], ◌∷◌, ◌++◌, map, append_assoc}
-use mathlib.Core.Bool.{Bool, true, false}
-use borrow.Author.Tests.{eq-eqb, ne_eqb}
+use mathlib.Core.Bool.{true, false}
+use borrow.Author.Tests.{ne_eqb}
 use lib.Dec.{eqb}
 use lib.IntN.{ℤ, pos}
-use lib.ListN.{length, take, drop, get_or}
-use lib.Seq.{take-nil, drop-drop}
+use lib.ListN.{length, take, drop, get_or, drop_of_length-le}
+use lib.Seq.{drop-cons, drop-drop}
 use Rattle.mesh.specs.declared.Zone.{Zone}
 use Rattle.texts.specs.Writes.{Each}
 use Rattle.texts.specs.Tabled.{rows_of, facet_of, element_of, point_of, points_of, head_of, section_for}
 use Rattle.figures.specs.Signed.{coordinate_text}
 use Rattle.texts.specs.Pieces.{Blank, space, line, Piece, shuts, feed, blank_byte, bytes_of}
-use Rattle.layout.specs.Items.{node, cell, face, given, elements, facets}
+use Rattle.texts.proofs.ByKind.{kind_is}
+use Rattle.layout.specs.Items.{Kind, node, cell, face, id_of, given, elements, facets}
 use Rattle.layout.specs.Rows.{Lent}
 use Rattle.texts.specs.Texts.{row, rows, enclosed, point_words, element_words, facet_words, mixed_words, body_text, item_text}
 use Rattle.putting.specs.Putting.{Laid}
-use Rattle.putting.proofs.Laying.{Left, left_more, laid_more}
-use Rattle.writer.specs.inner.Rows.{head_bytes, table_bytes, cell_words_of, face_words_of, pairs_bytes, nodes_bytes, SomeCorners}
+use Rattle.putting.proofs.Laying.{Left, left_more}
+use Rattle.writer.specs.inner.Rows.{table_bytes, cell_words_of, face_words_of, pairs_bytes, nodes_bytes}
 use Rattle.writer.proofs.Writing.{row_bytes_lem, rows_bytes, rows_map, head_bytes_lem}
-use Rattle.texts.specs.Write.{zone_in}
-use Rattle.writer.specs.inner.Sections.{rows_in, head_for, bodied, node_section, cell_section, face_section, section_bytes, parts_bytes, Puttable, AllPuttable}
+use Rattle.std.specs.Simd.{first_chunks}
+use native.Mathlib.Numerals.{add-one}
+use Rattle.std.proofs.lemmas.Nat.{le-div}
+use native.Mathlib.Nat.{add-mul, mul_comm}
+use Rattle.texts.specs.Write.{zone_in, zones_in}
+use Rattle.writer.specs.inner.Sections.{rows_in, PartIn, part_rows, head_for, bodied, node_section, cell_section, face_section, kind_bytes, section_bytes, parts_bytes}
 
-put_bodied : {old : List ℕ} {at : ℕ} {head a : List ℕ} {i : ℕ} {b : List ℕ} {j : ℕ} {rows c : List ℕ} {k : ℕ} {new : List ℕ} {r : ℕ}
-    → Laid old at head a i → Laid a i (40 ∷ []) b j → Laid b j rows c k → Laid c k (41 ∷ 41 ∷ 10 ∷ []) new r → Laid old at (head ++ bodied rows) new r
-put_bodied p q s t = laid_more p (laid_more q (laid_more s t))
+-- ---- the rows of a record, cut out of all those of the table
+rows_chunks : {A : Type 0} (w n : ℕ) (l : List A) → first_chunks w n l ≡ rows_of w n l
+unfolding rows_of
+rows_chunks w zero l = refl
+rows_chunks w (suc n) l = ap (λ rs. take w l ∷ rs) (rows_chunks w n (drop w l))
 
-module _ (z : Zone) {w i n : ℕ} (zone : w ≡ z.zone) (first : i ≡ z.first) (count : n ≡ rows_in z.first z.last)
-    {old : List ℕ} {at : ℕ} {a : List ℕ} {x : ℕ} {b : List ℕ} {y : ℕ} {c : List ℕ} {v : ℕ} {new : List ℕ} {r : ℕ} where
-  pub put_nodes_is : (d : ℕ) (ms es : List ℤ) {p : ℕ} → p ≡ d → Laid old at (head_bytes 10 w z.first z.last z.ztype d) a x → Laid a x (40 ∷ []) b y
-      → Laid b y (nodes_bytes p n (drop (3 * (i - 1)) ms) (drop (3 * (i - 1)) es)) c v → Laid c v (41 ∷ 41 ∷ 10 ∷ []) new r → Laid old at (node_section d z ms es) new r
-  unfolding node_section
-  put_nodes_is d ms es e h q s t = put_bodied (rw zone at h) q (rw (e, count, first) at s) t
+pub rows_length : {A : Type 0} (w n : ℕ) (l : List A) → length (rows_of w n l) ≡ n
+unfolding rows_of
+rows_length w zero l = refl
+rows_length w (suc n) l = ap suc (rows_length w n (drop w l))
 
-  pub put_cells_is : (cells : List ℕ) → z.element ≡ 0 → Laid old at (head_bytes 12 w z.first z.last z.ztype z.element) a x → Laid a x (40 ∷ []) b y
-      → Laid b y (table_bytes 2 cell_words_of n (drop (2 * (i - 1)) cells)) c v → Laid c v (41 ∷ 41 ∷ 10 ∷ []) new r → Laid old at (cell_section z cells) new r
-  unfolding cell_section
-  put_cells_is cells e h q s t = rw (eq-eqb z.element 0 e) (put_bodied (rw zone at h) q (rw (count, first) at s) t)
+chunks_drop : {A : Type 0} (w k n : ℕ) (l : List A) → drop k (first_chunks w (k + n) l) ≡ first_chunks w n (drop (w * k) l)
+chunks_drop w zero n l = let y : 0 + n ≡ n = omega arith in let z : w * 0 ≡ 0 = omega arith in rw (y, z)
+chunks_drop w (suc k) n l =
+    let y : suc k + n ≡ suc (k + n) = omega arith in
+    let z : w + w * k ≡ w * suc k = omega arith in
+    rw y (chunks_drop w k n (drop w l) ∙ ap (first_chunks w n) (drop-drop (w * k) w l ∙ ap (λ (j : ℕ). drop j l) z))
 
-  pub put_faces_is : (faces : List ℕ) (m : Bool) → m ≡ eqb z.element 0 → Laid old at (head_bytes 13 w z.first z.last z.ztype z.element) a x → Laid a x (40 ∷ []) b y
-      → Laid b y (table_bytes 8 (face_words_of m) n (drop (8 * (i - 1)) faces)) c v → Laid c v (41 ∷ 41 ∷ 10 ∷ []) new r → Laid old at (face_section z faces) new r
-  unfolding face_section
-  put_faces_is faces m e h q s t = put_bodied (rw zone at h) q (rw (e, count, first) at s) t
+chunks_take : {A : Type 0} (w n m : ℕ) (l : List A) → take n (first_chunks w (n + m) l) ≡ first_chunks w n l
+chunks_take w zero m l = refl
+chunks_take w (suc n) m l = let y : suc n + m ≡ suc (n + m) = omega arith in rw y (ap (λ rs. take w l ∷ rs) (chunks_take w n m (drop w l)))
 
-pub put_same_is : (z : Zone) (cells : List ℕ) {w : ℕ} → w ≡ z.zone → (z.element ≡ 0 → ⊥) → {old : List ℕ} {at : ℕ} {a : List ℕ} {x : ℕ} {new : List ℕ} {r : ℕ}
-    → Laid old at (head_bytes 12 w z.first z.last z.ztype z.element) a x → Laid a x (41 ∷ 10 ∷ []) new r → Laid old at (cell_section z cells) new r
-unfolding cell_section
-put_same_is z cells e n h q = rw (ne_eqb z.element 0 n) (laid_more (rw e at h) q)
+module _ (w : ℕ) (z : Zone) (some : 0 < w) where
+  -- the table has as many rows
+  pub part_room : {size : ℕ} → PartIn w z size → z.last ≤ size / w
+  part_room {size} p =
+      let e : z.last ≡ z.first - 1 + rows_in z.first z.last = omega (arith, p.0, p.1) in
+      le-div z.last size w some (rw (e, add-mul, mul_comm (z.first - 1) w) p.2)
 
-pub faces_asked : (z : Zone) (faces : List ℕ) {i n : ℕ} → i ≡ z.first → n ≡ rows_in z.first z.last
-    → 8 * (z.first - 1) + rows_in z.first z.last * 8 ≤ length faces → Each SomeCorners (rows_of 8 (rows_in z.first z.last) (drop (8 * (z.first - 1)) faces))
-    → (8 * (i - 1) + n * 8 ≤ length faces) × Each SomeCorners (rows_of 8 n (drop (8 * (i - 1)) faces))
-faces_asked z faces e f p q = rw (e, f) (p, q)
+  pub part_is : {A : Type 0} (l : List A) → PartIn w z (length l)
+      → take (z.last - (z.first - 1)) (drop (z.first - 1) (first_chunks w (length l / w) l)) ≡ part_rows w z l
+  part_is l p =
+      let k = z.first - 1 in
+      let n = rows_in z.first z.last in
+      let m = length l / w - z.last in
+      let a : length l / w ≡ k + (n + m) = omega (arith, part_room p, p.0, p.1) in
+      let b : z.last - k ≡ n = omega (arith, p.0, p.1) in
+      rw (a, b) (ap (take n) (chunks_drop w k (n + m) l) ∙ chunks_take w n m (drop (w * k) l) ∙ rows_chunks w n (drop (w * k) l))
 
 -- ---- they are the text of their items
-first_taken : (w : ℕ) (l : List ℤ) → get_or (take (suc w) l) 0 (pos 0) ≡ get_or l 0 (pos 0)
-first_taken w [] = refl
-first_taken w (x ∷ l) = refl
-
-rest_taken : (w : ℕ) (l : List ℤ) → drop 1 (take (suc w) l) ≡ take w (drop 1 l)
-rest_taken w [] = sym (take-nil w)
-rest_taken w (x ∷ l) = refl
-
-point_bytes : (b : Blank) (d w : ℕ) → d ≤ w → (ms es : List ℤ) → bytes_of (row b (point_words (point_of d (take w ms) (take w es))) []) ≡ pairs_bytes (blank_byte b) d ms es
+point_bytes : (b : Blank) (d : ℕ) (ms es : List ℤ) → bytes_of (row b (point_words (point_of d ms es)) []) ≡ pairs_bytes (blank_byte b) d ms es
 unfolding pairs_bytes
-point_bytes b zero w h ms es = refl
-point_bytes b (suc d) zero h ms es = absurd (omega arith)
-point_bytes b (suc d) (suc w) h ms es =
-    rw (first_taken w ms, first_taken w es, rest_taken w ms, rest_taken w es)
-    (ap (λ r. blank_byte b ∷ (coordinate_text (get_or ms 0 (pos 0)) (get_or es 0 (pos 0)) ++ r)) (point_bytes space d w (omega arith) (drop 1 ms) (drop 1 es)))
+point_bytes b zero ms es = refl
+point_bytes b (suc d) ms es = ap (λ r. blank_byte b ∷ (coordinate_text (get_or ms 0 (pos 0)) (get_or es 0 (pos 0)) ++ r)) (point_bytes space d (drop 1 ms) (drop 1 es))
 
-nodes_bytes_lem : (d : ℕ) → d ≤ 3 → (n : ℕ) (ms es : List ℤ) → bytes_of (rows point_words (points_of d (rows_of 3 n ms) (rows_of 3 n es)) []) ≡ nodes_bytes d n ms es
-unfolding nodes_bytes rows_of
-nodes_bytes_lem d h zero ms es = refl
-nodes_bytes_lem d h (suc n) ms es =
-    row_bytes_lem line (point_words (point_of d (take 3 ms) (take 3 es))) (rows point_words (points_of d (rows_of 3 n (drop 3 ms)) (rows_of 3 n (drop 3 es))) [])
-    ∙ (λ i. point_bytes line d 3 h ms es i ++ nodes_bytes_lem d h n (drop 3 ms) (drop 3 es) i)
+nodes_bytes_lem : (d : ℕ) (ms es : List (List ℤ)) → bytes_of (rows point_words (points_of d ms es) []) ≡ nodes_bytes d ms es
+unfolding nodes_bytes
+nodes_bytes_lem d [] es = refl
+nodes_bytes_lem d (m ∷ ms) [] = refl
+nodes_bytes_lem d (m ∷ ms) (e ∷ es) =
+    row_bytes_lem line (point_words (point_of d m e)) (rows point_words (points_of d ms es) []) ∙ (λ i. point_bytes line d m e i ++ nodes_bytes_lem d ms es i)
 
 seam : (a b c : List ℕ) → a ++ (40 ∷ (b ++ (41 ∷ 41 ∷ 10 ∷ c))) ≡ (a ++ bodied b) ++ c
 seam a b c = simp append_assoc
@@ -86,115 +88,76 @@ seam a b c = simp append_assoc
 body_bytes : {A : Type 0} (f : A → List (List ℕ)) (xs : List A) (ps : List Piece) → bytes_of (enclosed f xs (shuts ∷ feed ∷ ps)) ≡ 40 ∷ (bytes_of (rows f xs []) ++ (41 ∷ 41 ∷ 10 ∷ bytes_of ps))
 body_bytes f xs ps = ap (λ r. 40 ∷ r) (rows_bytes f xs (shuts ∷ shuts ∷ feed ∷ ps))
 
-pub node_section_lem : (d : ℕ) → d ≤ 3 → (l : Lent) (z : Zone) (ps : List Piece)
-    → bytes_of (item_text (section_for node d l z) ps) ≡ node_section d z l.mantissas l.exponents ++ bytes_of ps
+pub node_section_lem : (d : ℕ) (l : Lent) (z : Zone) (ps : List Piece) → bytes_of (item_text (section_for node d l z) ps) ≡ node_section d z l.mantissas l.exponents ++ bytes_of ps
 unfolding node_section
-node_section_lem d h l z ps =
-    let xs = points_of d (rows_of 3 (rows_in z.first z.last) (drop (3 * (z.first - 1)) l.mantissas)) (rows_of 3 (rows_in z.first z.last) (drop (3 * (z.first - 1)) l.exponents)) in
+node_section_lem d l z ps =
+    let ms = part_rows 3 z l.mantissas in
+    let es = part_rows 3 z l.exponents in
+    let xs = points_of d ms es in
     head_bytes_lem 10 (head_of node d z) d (enclosed point_words xs (shuts ∷ feed ∷ ps)) refl
-    ∙ ap (λ r. head_for 10 z d ++ r) (body_bytes point_words xs ps ∙ ap (λ r. 40 ∷ (r ++ (41 ∷ 41 ∷ 10 ∷ bytes_of ps))) (nodes_bytes_lem d h (rows_in z.first z.last) (drop (3 * (z.first - 1)) l.mantissas) (drop (3 * (z.first - 1)) l.exponents)))
-    ∙ seam (head_for 10 z d) (nodes_bytes d (rows_in z.first z.last) (drop (3 * (z.first - 1)) l.mantissas) (drop (3 * (z.first - 1)) l.exponents)) (bytes_of ps)
+    ∙ ap (λ r. head_for 10 z d ++ r) (body_bytes point_words xs ps ∙ ap (λ r. 40 ∷ (r ++ (41 ∷ 41 ∷ 10 ∷ bytes_of ps))) (nodes_bytes_lem d ms es))
+    ∙ seam (head_for 10 z d) (nodes_bytes d ms es) (bytes_of ps)
 
-cell_body : (e n : ℕ) (l : List ℕ) (head : List ℕ) (ps : List Piece)
-    → head ++ bytes_of (body_text (given e) (elements (map element_of (rows_of 2 n l))) (shuts ∷ feed ∷ ps))
-    ≡ (head ++ elim (eqb e 0) [ true ↦ bodied (table_bytes 2 cell_words_of n l) | false ↦ 41 ∷ 10 ∷ [] ]) ++ bytes_of ps
+cell_body : (e : ℕ) (rs : List (List ℕ)) (head : List ℕ) (ps : List Piece)
+    → head ++ bytes_of (body_text (given e) (elements (map element_of rs)) (shuts ∷ feed ∷ ps))
+    ≡ (head ++ elim (eqb e 0) [ true ↦ bodied (table_bytes cell_words_of rs) | false ↦ 41 ∷ 10 ∷ [] ]) ++ bytes_of ps
 unfolding table_bytes
-cell_body zero n l head ps =
-    ap (λ r. head ++ r) (body_bytes element_words (map element_of (rows_of 2 n l)) ps ∙ ap (λ x. 40 ∷ (bytes_of x ++ (41 ∷ 41 ∷ 10 ∷ bytes_of ps))) (rows_map element_words element_of (rows_of 2 n l) []))
-    ∙ seam head (table_bytes 2 cell_words_of n l) (bytes_of ps)
-cell_body (suc e) n l head ps = rw (ne_eqb (suc e) 0 (λ q. omega arith)) (sym (append_assoc head (41 ∷ 10 ∷ []) (bytes_of ps)))
+cell_body zero rs head ps =
+    ap (λ r. head ++ r) (body_bytes element_words (map element_of rs) ps ∙ ap (λ x. 40 ∷ (bytes_of x ++ (41 ∷ 41 ∷ 10 ∷ bytes_of ps))) (rows_map element_words element_of rs []))
+    ∙ seam head (table_bytes cell_words_of rs) (bytes_of ps)
+cell_body (suc e) rs head ps = rw (ne_eqb (suc e) 0 (λ q. omega arith)) (sym (append_assoc head (41 ∷ 10 ∷ []) (bytes_of ps)))
 
 pub cell_section_lem : (d : ℕ) (l : Lent) (z : Zone) (ps : List Piece) → bytes_of (item_text (section_for cell d l z) ps) ≡ cell_section z l.cells ++ bytes_of ps
 unfolding cell_section
 cell_section_lem d l z ps =
-    head_bytes_lem 12 (head_of cell d z) z.element (body_text (given z.element) (elements (map element_of (rows_of 2 (rows_in z.first z.last) (drop (2 * (z.first - 1)) l.cells)))) (shuts ∷ feed ∷ ps)) refl
-    ∙ cell_body z.element (rows_in z.first z.last) (drop (2 * (z.first - 1)) l.cells) (head_for 12 z z.element) ps
+    head_bytes_lem 12 (head_of cell d z) z.element (body_text (given z.element) (elements (map element_of (part_rows 2 z l.cells))) (shuts ∷ feed ∷ ps)) refl
+    ∙ cell_body z.element (part_rows 2 z l.cells) (head_for 12 z z.element) ps
 
-face_body : (e n : ℕ) (l : List ℕ) (head : List ℕ) (ps : List Piece)
-    → head ++ bytes_of (body_text (given e) (facets (map facet_of (rows_of 8 n l))) (shuts ∷ feed ∷ ps)) ≡ (head ++ bodied (table_bytes 8 (face_words_of (eqb e 0)) n l)) ++ bytes_of ps
+face_body : (e : ℕ) (rs : List (List ℕ)) (head : List ℕ) (ps : List Piece)
+    → head ++ bytes_of (body_text (given e) (facets (map facet_of rs)) (shuts ∷ feed ∷ ps)) ≡ (head ++ bodied (table_bytes (face_words_of (eqb e 0)) rs)) ++ bytes_of ps
 unfolding table_bytes
-face_body zero n l head ps =
-    ap (λ r. head ++ r) (body_bytes mixed_words (map facet_of (rows_of 8 n l)) ps ∙ ap (λ x. 40 ∷ (bytes_of x ++ (41 ∷ 41 ∷ 10 ∷ bytes_of ps))) (rows_map mixed_words facet_of (rows_of 8 n l) []))
-    ∙ seam head (table_bytes 8 (face_words_of true) n l) (bytes_of ps)
-face_body (suc e) n l head ps =
+face_body zero rs head ps =
+    ap (λ r. head ++ r) (body_bytes mixed_words (map facet_of rs) ps ∙ ap (λ x. 40 ∷ (bytes_of x ++ (41 ∷ 41 ∷ 10 ∷ bytes_of ps))) (rows_map mixed_words facet_of rs []))
+    ∙ seam head (table_bytes (face_words_of true) rs) (bytes_of ps)
+face_body (suc e) rs head ps =
     rw (ne_eqb (suc e) 0 (λ q. omega arith))
-    (ap (λ r. head ++ r) (body_bytes facet_words (map facet_of (rows_of 8 n l)) ps ∙ ap (λ x. 40 ∷ (bytes_of x ++ (41 ∷ 41 ∷ 10 ∷ bytes_of ps))) (rows_map facet_words facet_of (rows_of 8 n l) []))
-    ∙ seam head (table_bytes 8 (face_words_of false) n l) (bytes_of ps))
+    (ap (λ r. head ++ r) (body_bytes facet_words (map facet_of rs) ps ∙ ap (λ x. 40 ∷ (bytes_of x ++ (41 ∷ 41 ∷ 10 ∷ bytes_of ps))) (rows_map facet_words facet_of rs []))
+    ∙ seam head (table_bytes (face_words_of false) rs) (bytes_of ps))
 
 pub face_section_lem : (d : ℕ) (l : Lent) (z : Zone) (ps : List Piece) → bytes_of (item_text (section_for face d l z) ps) ≡ face_section z l.faces ++ bytes_of ps
 unfolding face_section
 face_section_lem d l z ps =
-    head_bytes_lem 13 (head_of face d z) z.element (body_text (given z.element) (facets (map facet_of (rows_of 8 (rows_in z.first z.last) (drop (8 * (z.first - 1)) l.faces)))) (shuts ∷ feed ∷ ps)) refl
-    ∙ face_body z.element (rows_in z.first z.last) (drop (8 * (z.first - 1)) l.faces) (head_for 13 z z.element) ps
+    head_bytes_lem 13 (head_of face d z) z.element (body_text (given z.element) (facets (map facet_of (part_rows 8 z l.faces))) (shuts ∷ feed ∷ ps)) refl
+    ∙ face_body z.element (part_rows 8 z l.faces) (head_for 13 z z.element) ps
 
 -- ---- a section of any kind
-module _ (d : ℕ) (ms es : List ℤ) (faces cells : List ℕ) (z : Zone) where
-  pub as_nodes : z.section ≡ 10 → node_section d z ms es ≡ section_bytes d ms es faces cells z
-  unfolding section_bytes
-  as_nodes e = rw (eq-eqb z.section 10 e, section_bytes)
+pub as_kind : (d : ℕ) (l : Lent) (z : Zone) (k : Kind) → z.section ≡ id_of k → kind_bytes d l z k ≡ section_bytes d l z
+unfolding section_bytes
+as_kind d l z k e = sym (kind_is (kind_bytes d l z) (face_section z l.faces) z.section k e)
 
-  pub as_cells : (z.section ≡ 10 → ⊥) → z.section ≡ 12 → cell_section z cells ≡ section_bytes d ms es faces cells z
-  unfolding section_bytes
-  as_cells n e = rw (ne_eqb z.section 10 n, eq-eqb z.section 12 e, section_bytes)
+-- ---- all sections
+pub zones_rows : (n : ℕ) (l : List ℕ) → map zone_in (first_chunks 6 n l) ≡ zones_in n l
+zones_rows zero l = refl
+zones_rows (suc n) l = ap (λ zs. zone_in (take 6 l) ∷ zs) (zones_rows n (drop 6 l))
 
-  pub as_faces : (z.section ≡ 10 → ⊥) → (z.section ≡ 12 → ⊥) → face_section z faces ≡ section_bytes d ms es faces cells z
-  unfolding section_bytes
-  as_faces n e = rw (ne_eqb z.section 10 n, ne_eqb z.section 12 e, section_bytes)
+pub zones_next : (rs : List (List ℕ)) (i : ℕ) (d : List ℕ) → i < length rs → map zone_in (drop i rs) ≡ zone_in (get_or rs i d) ∷ map zone_in (drop (i + 1) rs)
+zones_next rs i d h = ap (map zone_in) (drop-cons rs i d h) ∙ ap (λ (k : ℕ). zone_in (get_or rs i d) ∷ map zone_in (drop k rs)) (sym (add-one i))
 
-  module _ {old : List ℕ} {at : ℕ} {new : List ℕ} {r : ℕ} where
-    pub put_as_nodes : z.section ≡ 10 → Laid old at (node_section d z ms es) new r → Laid old at (section_bytes d ms es faces cells z) new r
-    put_as_nodes e w = subst (λ b. Laid old at b new r) (as_nodes e) w
+pub zones_end : (rs : List (List ℕ)) (i : ℕ) → length rs ≤ i → map zone_in (drop i rs) ≡ []
+zones_end rs i h = ap (map zone_in) (drop_of_length-le rs {i = i} h)
 
-    pub put_as_cells : (z.section ≡ 10 → ⊥) → z.section ≡ 12 → Laid old at (cell_section z cells) new r → Laid old at (section_bytes d ms es faces cells z) new r
-    put_as_cells n e w = subst (λ b. Laid old at b new r) (as_cells n e) w
+-- a fact of each record from the row i on
+pub each_rest : (P : Zone → Type 0) (rs : List (List ℕ)) (i : ℕ) → i < length rs → Each P (map zone_in (drop i rs)) → Each P (map zone_in (drop (i + 1) rs))
+each_rest P rs i h e = (subst (Each P) (zones_next rs i [] h) e).1
 
-    pub put_as_faces : (z.section ≡ 10 → ⊥) → (z.section ≡ 12 → ⊥) → Laid old at (face_section z faces) new r → Laid old at (section_bytes d ms es faces cells z) new r
-    put_as_faces n e w = subst (λ b. Laid old at b new r) (as_faces n e) w
-
--- ---- all sections: the records from the word k on are left
-module _ (d : ℕ) (ms es : List ℤ) (faces cells l : List ℕ) where
-  pub record Parting (old : List ℕ) (at : ℕ) (whole : List ℕ) (cur : List ℕ) (c k left : ℕ) : Type 0 where
-    pub laying : Left old at whole cur c (parts_bytes d ms es faces cells left (drop k l))
-    pub inside : k + left * 6 ≤ length l
-    pub puttable : AllPuttable ms es faces cells left (drop k l)
-
-  parts_some : (left k : ℕ) → 0 < left
-      → parts_bytes d ms es faces cells left (drop k l) ≡ section_bytes d ms es faces cells (zone_in (take 6 (drop k l))) ++ parts_bytes d ms es faces cells (left - 1) (drop (k + 6) l)
+module _ (d : ℕ) (l : Lent) (rs : List (List ℕ)) (i : ℕ) where
+  pub parts_more : {old : List ℕ} {at : ℕ} {whole cur : List ℕ} {c : ℕ} (e : List ℕ) {z : Zone} {mid : List ℕ} {m : ℕ} → Left old at whole cur c (parts_bytes d l (map zone_in (drop i rs)))
+      → i < length rs → z ≡ zone_in (get_or rs i e) → Laid cur c (section_bytes d l z) mid m → Left old at whole mid m (parts_bytes d l (map zone_in (drop (i + 1) rs)))
   unfolding parts_bytes
-  parts_some zero k p = absurd (omega arith)
-  parts_some (suc n) k p = let y : suc n - 1 ≡ n = omega arith in rw (y, drop-drop 6 k l)
+  parts_more e g h q w =
+      left_more (parts_bytes d l (map zone_in (drop (i + 1) rs))) g
+      (ap (parts_bytes d l) (zones_next rs i e h) ∙ ap (λ (y : Zone). section_bytes d l y ++ parts_bytes d l (map zone_in (drop (i + 1) rs))) (sym q)) w
 
-  pub parts_first : (left k : ℕ) → 0 < left → AllPuttable ms es faces cells left (drop k l) → Puttable ms es faces cells (zone_in (take 6 (drop k l)))
-  parts_first zero k p h = absurd (omega arith)
-  parts_first (suc n) k p h = h.0
-
-  parts_rest : (left k : ℕ) → 0 < left → AllPuttable ms es faces cells left (drop k l) → AllPuttable ms es faces cells (left - 1) (drop (k + 6) l)
-  parts_rest zero k p h = absurd (omega arith)
-  parts_rest (suc n) k p h = let y : suc n - 1 ≡ n = omega arith in rw (y, ← drop-drop 6 k l) h.1
-
-  pub parts_more : {old : List ℕ} {at : ℕ} {whole cur : List ℕ} {c : ℕ} (k left : ℕ) (z : Zone) {mid : List ℕ} {m : ℕ} → Parting old at whole cur c k left → 0 < left
-      → z ≡ zone_in (take 6 (drop k l)) → Laid cur c (section_bytes d ms es faces cells z) mid m → Parting old at whole mid m (k + 6) (left - 1)
-  parts_more {cur = cur} {c = c} k left z {mid} {m} g p e w =
-      record {
-        laying = left_more (parts_bytes d ms es faces cells (left - 1) (drop (k + 6) l)) g.laying (parts_some left k p) (subst (λ y. Laid cur c (section_bytes d ms es faces cells y) mid m) e w);
-        inside = omega (arith, g.inside);
-        puttable = parts_rest left k p g.puttable;
-      }
-
-  pub parts_none : (left k : ℕ) → left ≤ 0 → parts_bytes d ms es faces cells left (drop k l) ≡ []
+  pub parts_none : length rs ≤ i → parts_bytes d l (map zone_in (drop i rs)) ≡ []
   unfolding parts_bytes
-  parts_none zero k h = refl
-  parts_none (suc n) k h = absurd (omega arith)
-
--- the six words of a record
-six : (P : List ℕ → Type 0) → ((a b c d e f : ℕ) (l : List ℕ) → P (a ∷ b ∷ c ∷ d ∷ e ∷ f ∷ l)) → (l : List ℕ) → 6 ≤ length l → P l
-six P p [] h = absurd (omega arith)
-six P p (a ∷ []) h = absurd (omega arith)
-six P p (a ∷ b ∷ []) h = absurd (omega arith)
-six P p (a ∷ b ∷ c ∷ []) h = absurd (omega arith)
-six P p (a ∷ b ∷ c ∷ d ∷ []) h = absurd (omega arith)
-six P p (a ∷ b ∷ c ∷ d ∷ e ∷ []) h = absurd (omega arith)
-six P p (a ∷ b ∷ c ∷ d ∷ e ∷ f ∷ l) h = p a b c d e f l
-
-pub zone_row : (k : ℕ) (l : List ℕ) → zone_in (take (k + 6 - k) (drop k l)) ≡ zone_in (take 6 (drop k l))
-zone_row k l = let z : k + 6 - k ≡ 6 = omega arith in ap (λ n. zone_in (take n (drop k l))) z
+  parts_none h = ap (parts_bytes d l) (zones_end rs i h)

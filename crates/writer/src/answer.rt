@@ -2,22 +2,28 @@
 ghost use Rattle.std.specs.Prelude.{◌≡◌, ◌&&◌, leb};
 ghost use Rattle.sizes.specs.Sizes.{file_bytes};
 ghost use Rattle.texts.specs.Write.{Out, out, write_of};
-ghost use Rattle.writer.specs.Writer.{values_of, flat_mesh};
+ghost use Rattle.writer.specs.Writer.{number_of, values_of, flat_mesh};
 
 use super::judge::is_writable;
+use super::tables::{Tables, Totals};
 use super::text::put_mesh;
 
-#[derive(Clone, Copy)]
+#[derive(Clone, Copy, Debug, PartialEq, Eq)]
 pub enum Refusal {
     Unwritable,
     TextRoom,
 }
 
-// The length of the text, or why there is none.
-#[derive(Clone, Copy)]
-pub enum Written {
-    Done { bytes: usize },
-    Refused(Refusal),
+// A refusal's number.
+impl From<Refusal> for u32 {
+    ghost from_gives = { λ why number. number ≡ number_of why };
+
+    fn from(why: Refusal) -> u32 {
+        match why {
+            Refusal::Unwritable => 18,
+            Refusal::TextRoom => 19,
+        }
+    }
 }
 
 fn has_room(bytes: usize, room: usize) -> bool
@@ -26,7 +32,7 @@ fn has_room(bytes: usize, room: usize) -> bool
     bytes <= sizes::FILE_BYTES && bytes <= room
 }
 
-// The length is known before the first byte is written, so a text without room leaves what is lent as it was.
+// The length of the text, or why there is none. The length is known before the first byte is written, so a text without room leaves what is lent as it was. The tables and totals stay loose parameters: callers outside have them so.
 pub fn write_flat(
     dimension: u32,
     nodes: u32,
@@ -38,24 +44,28 @@ pub fn write_flat(
     cellrows: &[u32],
     zones: &[u32],
     text: &mut [u8],
-) -> Written
+) -> Result<usize, Refusal>
     ensures { ◌≡◌ {A = Out} (out (values_of result) text.new) (write_of (flat_mesh dimension nodes faces cells mantissas.now exponents.now facerows.now cellrows.now zones.now) text.old) }
 {
-    if !is_writable(
-        dimension, nodes, faces, cells, mantissas, exponents, facerows, cellrows, zones,
-    ) {
-        return Written::Refused(Refusal::Unwritable);
+    let totals = Totals {
+        dimension,
+        nodes,
+        faces,
+        cells,
+    };
+    let tables = Tables {
+        mantissas,
+        exponents,
+        faces: facerows,
+        cells: cellrows,
+    };
+    if !is_writable(totals, tables, zones) {
+        return Err(Refusal::Unwritable);
     }
-    let mut none: [u8; 1] = [0; 1];
-    let bytes = put_mesh(
-        &mut none, mantissas, exponents, facerows, cellrows, zones, dimension, nodes, cells, faces,
-    );
-    let fits = has_room(bytes, text.len());
-    if !fits {
-        return Written::Refused(Refusal::TextRoom);
+    let bytes = put_mesh(&mut [], totals, tables, zones);
+    if !has_room(bytes, text.len()) {
+        return Err(Refusal::TextRoom);
     }
-    put_mesh(
-        text, mantissas, exponents, facerows, cellrows, zones, dimension, nodes, cells, faces,
-    );
-    Written::Done { bytes }
+    put_mesh(text, totals, tables, zones);
+    Ok(bytes)
 }

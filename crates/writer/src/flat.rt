@@ -1,69 +1,25 @@
-// Zone records as words in a table of 64 records: what the writer over a list of records is made of.
-ghost use Rattle.std.specs.Prelude.{◌<◌, min, ◌≡◌, replicate};
-ghost use Rattle.texts.specs.Write.{Out, out};
-ghost use Rattle.writer.specs.Writer.{values_of};
-ghost use Rattle.writer.specs.inner.Flat.{with_record, some_of};
+// Zone records as words, six each.
+ghost use Rattle.std.specs.Prelude.{◌*◌, ◌≤◌, ◌≡◌, length, take};
+ghost use Rattle.writer.specs.inner.Flat.{words_of, flat_of};
 
-use super::answer::{Refusal, Written, write_flat};
 use mesh::Zone;
 
-pub(crate) fn few(n: usize) -> usize
-    ensures { result ≡ min n 64 }
+// Words in a zone record.
+pub(crate) const ZONE_WORDS: usize = 6;
+
+fn words_of(z: Zone) -> [u32; ZONE_WORDS]
+    ensures { result ≡ words_of z }
 {
-    if n <= sizes::ZONES { n } else { sizes::ZONES }
+    [z.section, z.zone, z.first, z.last, z.ztype, z.element]
 }
 
-pub(crate) fn blank() -> [u32; 384]
-    ensures { result ≡ replicate 384 0 }
+// The records one behind the other, from the front on.
+pub(crate) fn lay_records(flat: &mut [u32], zones: &[Zone])
+    requires { 6 * length zones.now ≤ length flat.old }
+    ensures { take (6 * length zones.now) flat.new ≡ flat_of zones.now }
 {
-    let flat: [u32; 384] = [0; 384];
-    flat
-}
-
-pub(crate) fn with_record(flat: &mut [u32; 384], i: usize, z: Zone)
-    requires { i < 64 }
-    ensures { flat.new ≡ with_record flat.old i z }
-{
-    let b = 6 * i;
-    flat[b] = z.section;
-    flat[b + 1] = z.zone;
-    flat[b + 2] = z.first;
-    flat[b + 3] = z.last;
-    flat[b + 4] = z.ztype;
-    flat[b + 5] = z.element;
-}
-
-// A mesh has no more records than the table: with more, no text gives it.
-pub(crate) fn write_some(
-    dimension: u32,
-    nodes: u32,
-    faces: u32,
-    cells: u32,
-    mantissas: &[i64],
-    exponents: &[i32],
-    facerows: &[u32],
-    cellrows: &[u32],
-    flat: [u32; 384],
-    n: usize,
-    text: &mut [u8],
-) -> Written
-    ensures { ◌≡◌ {A = Out} (out (values_of result) text.new) (some_of dimension nodes faces cells mantissas.now exponents.now facerows.now cellrows.now flat n text.old) }
-{
-    let too_many = sizes::ZONES < n;
-    if too_many {
-        return Written::Refused(Refusal::Unwritable);
+    for (i, zone) in zones.iter().enumerate() {
+        let at = ZONE_WORDS * i;
+        flat[at..at + ZONE_WORDS].copy_from_slice(&words_of(*zone));
     }
-    let end = 6 * n;
-    write_flat(
-        dimension,
-        nodes,
-        faces,
-        cells,
-        mantissas,
-        exponents,
-        facerows,
-        cellrows,
-        &flat[..end],
-        text,
-    )
 }

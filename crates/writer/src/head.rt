@@ -1,28 +1,21 @@
 // The front of a section: its parenthesis, its id, its header.
-ghost use Rattle.std.specs.Prelude.{[]};
+ghost use Rattle.sofar.specs.Sofar.{id_for};
 ghost use Rattle.putting.specs.Putting.{Laid};
-ghost use Rattle.writer.specs.inner.Rows.{head_bytes};
+ghost use Rattle.writer.specs.inner.Sections.{head_for};
 
 use super::words::lay_words;
+use mesh::Zone;
 use putting::{put_byte, put_decimal, put_hex, put_text};
+use sofar::id_of;
+use spots::Kind;
 
-pub(crate) fn put_head(
-    out: &mut [u8],
-    at: usize,
-    id: u64,
-    zone: u64,
-    first: u32,
-    last: u32,
-    ztype: u32,
-    fifth: u32,
-) -> usize
-    ensures { Laid out.old at (head_bytes id zone first last ztype fifth) out.new result }
+pub(crate) fn put_head(out: &mut [u8], at: usize, kind: Kind, z: Zone, fifth: u32) -> usize
+    ensures { Laid out.old at (head_for (id_for kind) z fifth) out.new result }
 {
-    let a = put_byte(out, at, 40);
-    let b = put_decimal(out, a, id);
+    let a = put_byte(out, at, b'(');
+    let b = put_decimal(out, a, u64::from(id_of(kind)));
     let c = put_text(out, b, b" (");
-    let d = put_hex(out, c, zone);
-    let rest: [u32; 4] = [first, last, ztype, fifth];
-    let e = lay_words(out, d, 32, &rest);
-    put_byte(out, e, 41)
+    let d = put_hex(out, c, u64::from(z.zone));
+    let e = lay_words(out, d, b' ', &[z.first, z.last, z.ztype, fifth]);
+    put_byte(out, e, b')')
 }

@@ -15,9 +15,10 @@ mod nodes;
 mod records;
 mod rows;
 mod section;
+mod tables;
 mod text;
 mod words;
 mod zones;
 
-pub use answer::{Refusal, Written, write_flat};
+pub use answer::{Refusal, write_flat};
 pub use zones::write;

@@ -1,15 +1,17 @@
 // Rows of nodes that a text can give: canonical pairs, and 0, 0 where the mesh has no dimension.
-ghost use Rattle.std.specs.Prelude.{◌+◌, ◌*◌, ◌≤◌, ◌≡◌, cond, ltb, length, drop};
+ghost use Rattle.std.specs.Prelude.{◌≡◌, cond, ltb, zip, length};
+ghost use Rattle.std.specs.List.{list_all};
 ghost use Rattle.mesh.specs.Rows.{node_words};
-ghost use Rattle.texts.specs.Judged.{canonical_by, nought_by, pairs_by, nodes_by};
+ghost use Rattle.texts.specs.Judged.{canonical_by, nought_by, pairs_by};
 
-use super::nodes::{exponent_at, mantissa_at};
 use decimals::magnitude;
+use mesh::NODE_WORDS;
 
 // The first number with one digit more than a mantissa may have.
 const OVER: u64 = 1000000000000000000;
 
 // One form for each number: no 0 at the mantissa's end, and zero itself is 0, 0.
+#[tactic(auto, unfolding(texts::specs::Judged::canonical_by))]
 fn is_canonical(m: i64, e: i32) -> bool
     ensures { result ≡ canonical_by m e }
 {
@@ -42,35 +44,16 @@ fn pair_fits(m: i64, e: i32, i: usize, d: usize) -> bool
     is_nought(m, e)
 }
 
-fn pairs_fit(ms: &[i64], es: &[i32], k: usize, d: usize) -> bool
-    requires { (k + node_words ≤ length ms.now) × (k + node_words ≤ length es.now) }
-    ensures { result ≡ pairs_by node_words d (drop k ms.now) (drop k es.now) }
+#[tactic(auto, using(crate::proofs::NodeTests::pairs_is))]
+fn pairs_fit(ms: &[i64; NODE_WORDS], es: &[i32; NODE_WORDS], d: usize) -> bool
+    ensures { result ≡ pairs_by node_words d ms.now es.now }
 {
-    let mut i = 0;
-    while i < mesh::NODE_WORDS {
-        let at = k + i;
-        let m = mantissa_at(ms, at);
-        let e = exponent_at(es, at);
-        if !pair_fits(m, e, i, d) {
-            return false;
-        }
-        i += 1;
-    }
-    true
+    pair_fits(ms[0], es[0], 0, d) && pair_fits(ms[1], es[1], 1, d) && pair_fits(ms[2], es[2], 2, d)
 }
 
-pub(crate) fn nodes_fit(ms: &[i64], es: &[i32], start: usize, n: usize, d: usize) -> bool
-    requires { (start + n * node_words ≤ length ms.now) × (start + n * node_words ≤ length es.now) }
-    ensures { result ≡ nodes_by d n (drop start ms.now) (drop start es.now) }
+// Each row of mantissas has its row of exponents.
+pub(crate) fn nodes_fit(ms: &[[i64; NODE_WORDS]], es: &[[i32; NODE_WORDS]], d: usize) -> bool
+    ensures { result ≡ list_all (λ row. pairs_by node_words d row.0 row.1) (zip ms.now es.now) }
 {
-    let mut k = start;
-    let mut left = n;
-    while 0 < left {
-        if !pairs_fit(ms, es, k, d) {
-            return false;
-        }
-        k += mesh::NODE_WORDS;
-        left -= 1;
-    }
-    true
+    ms.iter().zip(es).all(|(m, e)| pairs_fit(m, e, d))
 }

@@ -1,179 +1,106 @@
 // Sections, from their records and the tables.
-ghost use Rattle.std.specs.Prelude.{suc, ◌+◌, ◌-◌, ◌*◌, ◌/◌, ◌≤◌, ◌≡◌, length, take, drop};
+ghost use Rattle.std.specs.Prelude.{◌+◌, ◌-◌, ◌*◌, ◌<◌, ◌≤◌, ◌≡◌, length};
 ghost use Rattle.texts.specs.Writes.{Each};
-ghost use Rattle.texts.specs.Tabled.{rows_of};
-ghost use Rattle.texts.specs.Write.{zone_in};
+ghost use Rattle.texts.specs.Write.{zone_in, records_in};
 ghost use Rattle.putting.specs.Putting.{Laid};
 ghost use Rattle.writer.specs.inner.Rows.{SomeCorners};
-ghost use Rattle.writer.specs.inner.Sections.{rows_in, node_section, cell_section, face_section, section_bytes, parts_bytes, Puttable, AllPuttable};
+ghost use Rattle.writer.specs.inner.Sections.{PartIn, part_rows, node_section, cell_section, face_section, section_bytes, parts_bytes, Puttable, AllPuttable};
+ghost use Rattle.writer.specs.inner.Tables.{held};
 
 use super::cells::put_cells;
 use super::faces::put_faces;
+use super::flat::ZONE_WORDS;
 use super::head::put_head;
 use super::nodes::put_nodes;
+use super::tables::Tables;
 use mesh::Zone;
 use putting::put_text;
+use sofar::kind_of;
+use spots::Kind;
 
-pub(crate) fn index(x: u32) -> usize
-    ensures { result ≡ x }
+// The rows of a record, of all those in its table.
+pub(crate) fn part<T, const N: usize>(table: &[T], z: Zone) -> &[[T; N]]
+    requires { (0 < N) × PartIn N z (length table.now) }
+    ensures { result.now ≡ part_rows N z table.now }
 {
-    x as usize
-}
-
-fn wide(x: u32) -> u64
-    ensures { result ≡ x }
-{
-    x as u64
-}
-
-pub(crate) fn rows_in(first: u32, last: u32) -> usize
-    requires { first ≤ last }
-    ensures { result ≡ rows_in first last }
-{
-    let f = index(first);
-    let l = index(last);
-    l + 1 - f
+    let (rows, _) = table.as_chunks::<N>();
+    &rows[z.first as usize - 1..z.last as usize]
 }
 
 fn put_node_section(out: &mut [u8], at: usize, ms: &[i64], es: &[i32], z: Zone, d: u32) -> usize
-    requires { (1 ≤ z.first)
-        × (z.first ≤ z.last)
-        × (3 * (z.first - 1) + rows_in z.first z.last * 3 ≤ length ms.now)
-        × (3 * (z.first - 1) + rows_in z.first z.last * 3 ≤ length es.now)
-        × (d ≤ 3) }
+    requires { PartIn 3 z (length ms.now) × PartIn 3 z (length es.now) × (d ≤ 3) }
     ensures { Laid out.old at (node_section d z ms.now es.now) out.new result }
 {
-    let first = z.first;
-    let last = z.last;
-    let zone = wide(z.zone);
-    let start = index(first) - 1;
-    let from = 3 * start;
-    let n = rows_in(first, last);
-    let places = index(d);
-    let a = put_head(out, at, 10, zone, first, last, z.ztype, d);
+    let a = put_head(out, at, Kind::Node, z, d);
     let b = put_text(out, a, b"(");
-    let c = put_nodes(out, b, ms, es, from, n, places);
+    let c = put_nodes(out, b, part(ms, z), part(es, z), d as usize);
     put_text(out, c, b"))\n")
 }
 
 fn put_cell_section(out: &mut [u8], at: usize, cells: &[u32], z: Zone) -> usize
-    requires { (1 ≤ z.first)
-        × (z.first ≤ z.last)
-        × (2 * (z.first - 1) + rows_in z.first z.last * 2 ≤ length cells.now) }
+    requires { PartIn 2 z (length cells.now) }
     ensures { Laid out.old at (cell_section z cells.now) out.new result }
 {
-    let first = z.first;
-    let last = z.last;
-    let zone = wide(z.zone);
-    let a = put_head(out, at, 12, zone, first, last, z.ztype, z.element);
+    let a = put_head(out, at, Kind::Cell, z, z.element);
     if z.element == 0 {
-        let start = index(first) - 1;
-        let from = 2 * start;
-        let n = rows_in(first, last);
         let b = put_text(out, a, b"(");
-        let c = put_cells(out, b, cells, from, n);
+        let c = put_cells(out, b, part(cells, z));
         return put_text(out, c, b"))\n");
     }
     put_text(out, a, b")\n")
 }
 
 fn put_face_section(out: &mut [u8], at: usize, faces: &[u32], z: Zone) -> usize
-    requires { (1 ≤ z.first)
-        × (z.first ≤ z.last)
-        × (8 * (z.first - 1) + rows_in z.first z.last * 8 ≤ length faces.now)
-        × Each SomeCorners (rows_of 8 (rows_in z.first z.last) (drop (8 * (z.first - 1)) faces.now)) }
+    requires { PartIn 8 z (length faces.now)
+        × Each SomeCorners (part_rows 8 z faces.now) }
     ensures { Laid out.old at (face_section z faces.now) out.new result }
 {
-    let first = z.first;
-    let last = z.last;
-    let zone = wide(z.zone);
-    let start = index(first) - 1;
-    let from = 8 * start;
-    let n = rows_in(first, last);
-    let mixed = z.element == 0;
-    let a = put_head(out, at, 13, zone, first, last, z.ztype, z.element);
+    let a = put_head(out, at, Kind::Face, z, z.element);
     let b = put_text(out, a, b"(");
-    let c = put_faces(out, b, faces, from, n, mixed);
+    let c = put_faces(out, b, part(faces, z), z.element == 0);
     put_text(out, c, b"))\n")
 }
 
-fn put_section(
-    out: &mut [u8],
-    at: usize,
-    ms: &[i64],
-    es: &[i32],
-    faces: &[u32],
-    cells: &[u32],
-    z: Zone,
-    d: u32,
-) -> usize
-    requires { (d ≤ 3) × Puttable ms.now es.now faces.now cells.now z }
-    ensures { Laid
-        out.old
-        at
-        (section_bytes d ms.now es.now faces.now cells.now z)
-        out.new
-        result }
+#[tactic(auto, unfolding(crate::specs::inner::Sections::section_bytes))]
+fn put_section(out: &mut [u8], at: usize, tables: Tables<'_>, z: Zone, d: u32) -> usize
+    requires { (d ≤ 3) × Puttable (held tables) z }
+    ensures { Laid out.old at (section_bytes d (held tables.entry) z) out.new result }
 {
-    let id = z.section;
-    if id == 10 {
-        return put_node_section(out, at, ms, es, z, d);
+    match kind_of(z.section) {
+        Some(Kind::Node) => put_node_section(out, at, tables.mantissas, tables.exponents, z, d),
+        Some(Kind::Cell) => put_cell_section(out, at, tables.cells, z),
+        _ => put_face_section(out, at, tables.faces, z),
     }
-    if id == 12 {
-        return put_cell_section(out, at, cells, z);
-    }
-    put_face_section(out, at, faces, z)
 }
 
-pub(crate) fn zone_at(zones: &[u32], k: usize) -> Zone
-    requires { k + 6 ≤ length zones.now }
-    ensures { result ≡ zone_in (take 6 (drop k zones.now)) }
+pub(crate) fn zone_of(row: &[u32; ZONE_WORDS]) -> Zone
+    ensures { result ≡ zone_in row.now }
 {
-    let end = k + 6;
-    let row = &zones[k..end];
+    let [section, zone, first, last, ztype, element] = *row;
     Zone {
-        section: row[0],
-        zone: row[1],
-        first: row[2],
-        last: row[3],
-        ztype: row[4],
-        element: row[5],
+        section,
+        zone,
+        first,
+        last,
+        ztype,
+        element,
     }
 }
 
 pub(crate) fn put_parts(
     out: &mut [u8],
     at: usize,
-    ms: &[i64],
-    es: &[i32],
-    faces: &[u32],
-    cells: &[u32],
+    tables: Tables<'_>,
     zones: &[u32],
     d: u32,
 ) -> usize
-    requires { (d ≤ 3) × AllPuttable ms.now es.now faces.now cells.now (length zones.now / 6) zones.now }
-    ensures { Laid
-        out.old
-        at
-        (parts_bytes
-        d
-        ms.now
-        es.now
-        faces.now
-        cells.now
-        (length zones.now / 6)
-        zones.now)
-        out.new
-        result }
+    requires { (d ≤ 3) × AllPuttable (held tables) (records_in zones.now) }
+    ensures { Laid out.old at (parts_bytes d (held tables.entry) (records_in zones.now)) out.new result }
 {
+    let (rows, _) = zones.as_chunks();
     let mut c = at;
-    let mut k: usize = 0;
-    let mut left = zones.len() / 6;
-    while 0 < left {
-        let z = zone_at(zones, k);
-        c = put_section(out, c, ms, es, faces, cells, z, d);
-        k += 6;
-        left -= 1;
+    for row in rows {
+        c = put_section(out, c, tables, zone_of(row), d);
     }
     c
 }

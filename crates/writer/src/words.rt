@@ -11,11 +11,9 @@ pub(crate) fn lay_words(out: &mut [u8], at: usize, lead: u8, words: &[u32]) -> u
 {
     let mut c = at;
     let mut b = lead;
-    let mut i: usize = 0;
-    while i < words.len() {
-        c = lay_word(out, c, b, words[i]);
-        b = 32;
-        i += 1;
+    for word in words {
+        c = lay_word(out, c, b, *word);
+        b = b' ';
     }
     c
 }
@@ -23,7 +21,6 @@ pub(crate) fn lay_words(out: &mut [u8], at: usize, lead: u8, words: &[u32]) -> u
 pub(crate) fn lay_coordinate(out: &mut [u8], at: usize, lead: u8, m: i64, e: i32) -> usize
     ensures { Laid out.old at (lead ∷ coordinate_text m e) out.new result }
 {
-    let tens = e as i64;
     let c = lay_signed(out, at, lead, m);
-    lay_signed(out, c, 101, tens)
+    lay_signed(out, c, b'e', i64::from(e))
 }

@@ -1,3 +1,5 @@
+use Rattle.std.specs.Prelude.{Some}
+use mathlib.Core.Path.{ap, ◌∙◌}
 use Rattle.ids.proofs.Figured.{figure_out, figure_low, figure_high, figure_is}
 use native.Mathlib.Omega.{arith}
 use Rattle.ids.proofs.figure_at.Goals as goal
@@ -16,4 +18,4 @@ returns-then-b-gt57 c = figure_high _ _ (omega (arith, c.if-b-lt48.false)) c.if-
 
 -- src/lib.rt:17:1
 pub returns : goal.returns
-returns c = figure_is _ _ (omega (arith, c.if-b-lt48.false)) (omega (arith, c.if-b-gt57.false))
+returns c = ap Some c.from.ensures ∙ figure_is _ _ (omega (arith, c.if-b-lt48.false)) (omega (arith, c.if-b-gt57.false))

@@ -6,8 +6,8 @@ use Rattle.records.proofs.extra_bytes.Goals as goal
 pub returns-then-has_place : goal.returns-then-has_place
 returns-then-has_place c = extra_bytes_place _ _ (sym c.has_place.ensures ∙ c.if-has_place.true)
 
-pub returns-then-kind-eq9 : goal.returns-then-kind-eq9
-returns-then-kind-eq9 c = extra_bytes_count _ _ (sym c.has_place.ensures ∙ c.if-has_place.false) c.if-kind-eq9.true
+pub returns-then-kind-eq-COUNTED : goal.returns-then-kind-eq-COUNTED
+returns-then-kind-eq-COUNTED c = extra_bytes_count _ _ (sym c.has_place.ensures ∙ c.if-has_place.false) c.if-kind-eq-COUNTED.true
 
-pub returns : goal.returns
-returns c = extra_bytes_none _ _ (sym c.has_place.ensures ∙ c.if-has_place.false) c.if-kind-eq9.false
+pub returns-else-kind-eq-COUNTED : goal.returns-else-kind-eq-COUNTED
+returns-else-kind-eq-COUNTED c = extra_bytes_none _ _ (sym c.has_place.ensures ∙ c.if-has_place.false) c.if-kind-eq-COUNTED.false

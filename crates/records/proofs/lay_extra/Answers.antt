@@ -12,13 +12,13 @@ lay_number-requires c = omega (arith, c.requires, extra_bytes_place narrow c.arg
 pub returns-then-has_place : goal.returns-then-has_place
 returns-then-has_place c = rw (← extra_bytes_place narrow c.args.kind (sym c.has_place.ensures ∙ c.if-has_place.true)) c.lay_number.ensures
 
-pub lay_number-requires-then-kind-eq9 : goal.lay_number-requires-then-kind-eq9
-lay_number-requires-then-kind-eq9 c = omega (arith, c.requires, extra_bytes_count narrow c.args.kind (sym c.has_place.ensures ∙ c.if-has_place.false) c.if-kind-eq9.true)
+pub lay_number-requires-then-kind-eq-COUNTED : goal.lay_number-requires-then-kind-eq-COUNTED
+lay_number-requires-then-kind-eq-COUNTED c = omega (arith, c.requires, extra_bytes_count narrow c.args.kind (sym c.has_place.ensures ∙ c.if-has_place.false) c.if-kind-eq-COUNTED.true)
 
-pub returns-then-kind-eq9 : goal.returns-then-kind-eq9
-returns-then-kind-eq9 c =
-    rw (← extra_bytes_count narrow c.args.kind (sym c.has_place.ensures ∙ c.if-has_place.false) c.if-kind-eq9.true) c.lay_number-then-kind-eq9.ensures
+pub returns-then-kind-eq-COUNTED : goal.returns-then-kind-eq-COUNTED
+returns-then-kind-eq-COUNTED c =
+    rw (← extra_bytes_count narrow c.args.kind (sym c.has_place.ensures ∙ c.if-has_place.false) c.if-kind-eq-COUNTED.true) c.lay_number-then-kind-eq-COUNTED.ensures
 
-pub returns : goal.returns
+pub returns-else-kind-eq-COUNTED : goal.returns-else-kind-eq-COUNTED
 unfolding big_endian
-returns c = rw (← extra_bytes_none narrow c.args.kind (sym c.has_place.ensures ∙ c.if-has_place.false) c.if-kind-eq9.false)
+returns-else-kind-eq-COUNTED c = rw (← extra_bytes_none narrow c.args.kind (sym c.has_place.ensures ∙ c.if-has_place.false) c.if-kind-eq-COUNTED.false)

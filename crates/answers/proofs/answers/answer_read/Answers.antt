@@ -1,14 +1,13 @@
+use mathlib.Core.Path.{refl}
 use Rattle.answers.proofs.Said.{answered}
 use Rattle.answers.specs.Words.{read_words}
 use Rattle.layout.specs.Replies.{shown}
-use mathlib.Core.Path.{refl}
 use Rattle.answers.proofs.answers.answer_read.Goals as goal
 
--- src/answers.rt:68:1
-pub returns-in-Refused : goal.returns-in-Refused
-returns-in-Refused c =
-    answered (λ y. (shown y).number) (λ y. read_words (shown y)) _ _ c.in-Refused.is _ c.args.answer.now _ c.number_of.ensures c.copy_wide.ensures
+pub returns-in-Err : goal.returns-in-Err
+returns-in-Err c =
+    answered (λ y. (shown y).number) (λ y. read_words (shown y)) _ _ c.in-Err.is _ c.args.answer.now _ c.number_of.ensures (rw c.from-section.ensures at c.copy_into.ensures)
 
--- src/answers.rt:68:1
-pub returns-in-Accepted : goal.returns-in-Accepted
-returns-in-Accepted c = answered (λ y. (shown y).number) (λ y. read_words (shown y)) _ _ c.in-Accepted.is _ c.args.answer.now _ refl c.copy_wide-in-Accepted.ensures
+pub returns-in-Ok : goal.returns-in-Ok
+returns-in-Ok c =
+    answered (λ y. (shown y).number) (λ y. read_words (shown y)) _ _ c.in-Ok.is _ c.args.answer.now _ refl (rw (c.from-dim.ensures, c.from-nodes.ensures, c.from-faces.ensures, c.from-cells.ensures, c.from-zones.ensures) at c.copy_into-in-Ok.ensures)

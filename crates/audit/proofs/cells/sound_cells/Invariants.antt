@@ -6,6 +6,3 @@ use Rattle.audit.proofs.cells.sound_cells.Given as goal
 
 abbrev pub invariant-loop-c : goal.invariant-loop-c
 invariant-loop-c l = Passed (cell_faults l.frame l.rows (λ i. get_or l.counts (i - 1) 0)) l.cells l.c
-
-abbrev pub decreases-loop-c : goal.decreases-loop-c
-decreases-loop-c l = l.cells - l.c

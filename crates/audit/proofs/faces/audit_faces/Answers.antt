@@ -1,6 +1,5 @@
 -- `audit::faces::audit_faces` meets its contract: each loop holds what is left to lay, and the outer one what is left to count. Assumes nothing.
 -- the face is that of the number f
-use Prim.Native.Nat.{◌≤◌, ◌-◌}
 use native.Mathlib.Omega.{arith}
 use mathlib.Core.Path.{refl, ◌∙◌}
 use lib.Dec.{lit≤}

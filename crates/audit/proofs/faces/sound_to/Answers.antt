@@ -1,23 +1,13 @@
 -- `audit::faces::sound_to` meets its contract: no face so far has a fault, and their sides are counted. Assumes nothing.
-use Prim.Native.Nat.{◌-◌}
 use native.Mathlib.Omega.{arith}
-use mathlib.Core.Path.{refl, sym, ◌∙◌}
+use mathlib.Core.Path.{◌≡◌, refl, sym, ◌∙◌}
 use Rattle.mesh.specs.Rows.{places}
 use Rattle.audit.proofs.Loop.{face_quiet}
 use Rattle.faults.proofs.Counting.{tallying_small, tallying_more, tallying_past}
 use Rattle.audit.proofs.faces.sound_to.Goals as goal
 
-pub loop-f-init : goal.loop-f-init
-loop-f-init c = (omega arith, c.requires.0, c.requires.3, refl, c.requires.4)
-
-pub face_of-face-requires : goal.face_of-face-requires
-face_of-face-requires c = omega (arith, c.requires.2)
-
 pub tally_face-requires : goal.tally_face-requires
 tally_face-requires c = (c.loop-f.invariant.2, λ i h. omega (arith, c.requires.1, tallying_small places _ _ _ c.loop-f.invariant.4 i h))
-
-pub shape_of-counts-then-tally_face : goal.shape_of-counts-then-tally_face
-shape_of-counts-then-tally_face c = c.tally_face.auto.counts ∙ c.loop-f.invariant.4.kept
 
 pub returns-then-tally_face : goal.returns-then-tally_face
 returns-then-tally_face c =
@@ -40,15 +30,14 @@ loop-f-preserved c =
       tallying_more places _ _ _ _ (omega arith) c.loop-f.invariant.2 c.face_of-face.ensures refl e.counts c.loop-f.invariant.4,
     )
 
-pub shape_of-counts : goal.shape_of-counts
-shape_of-counts c = c.loop-f.invariant.4.kept
-
 pub returns : goal.returns
 returns c =
+    let z : c.loop-f.f ≡ c.args.faces = omega arith in
+    let i = rw z at c.loop-f.invariant in
     record {
-      ahead = c.loop-f.invariant.0;
-      within = c.loop-f.invariant.1;
-      quiet = c.loop-f.invariant.3;
+      ahead = i.0;
+      within = i.1;
+      quiet = i.3;
       faulty = λ h. absurd (omega arith);
-      tallied = tallying_past places _ _ _ (omega arith) c.loop-f.invariant.4;
+      tallied = tallying_past places _ _ _ (omega arith) i.4;
     }

@@ -13,6 +13,3 @@ invariant-loop-f l = (l.from ≤ l.f)
     × (l.frame.cells ≤ length l.counts)
     × (each (face_faults places l.frame l.rows) (l.from + 1) (l.faces - l.from) ≡ each (face_faults places l.frame l.rows) (l.f + 1) (l.faces - l.f))
     × Tallying places l.rows l.faces l.frame.cells l.initial.counts l.f l.counts
-
-abbrev pub decreases-loop-f : goal.decreases-loop-f
-decreases-loop-f l = l.faces - l.f

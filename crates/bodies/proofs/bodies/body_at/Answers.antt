@@ -4,10 +4,10 @@ use Rattle.bodies.proofs.bodies.body_at.Goals as goal
 
 pub returns-in-Rows : goal.returns-in-Rows
 returns-in-Rows c =
-    body_rows _ _ (kind_for c.args.kind) c.args.d c.args.n (fifth_for c.args.fifth) c.shape_of-shape.ensures _ c.in-Rows.is c.enclosed_past.ensures
+    body_rows _ _ (kind_for c.args.kind) c.args.d c.args.n (fifth_for c.args.fifth) c.shape_of.ensures _ c.in-Rows.is c.enclosed_past.ensures
 
 pub returns-in-Bare : goal.returns-in-Bare
-returns-in-Bare c = body_bare _ _ (kind_for c.args.kind) c.args.d c.args.n (fifth_for c.args.fifth) c.shape_of-shape.ensures c.in-Bare.is
+returns-in-Bare c = body_bare _ _ (kind_for c.args.kind) c.args.d c.args.n (fifth_for c.args.fifth) c.shape_of.ensures c.in-Bare.is
 
 pub returns-in-Never : goal.returns-in-Never
-returns-in-Never c = body_never _ _ (kind_for c.args.kind) c.args.d c.args.n (fifth_for c.args.fifth) c.shape_of-shape.ensures c.in-Never.is
+returns-in-Never c = body_never _ _ (kind_for c.args.kind) c.args.d c.args.n (fifth_for c.args.fifth) c.shape_of.ensures c.in-Never.is

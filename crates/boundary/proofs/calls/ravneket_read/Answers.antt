@@ -11,10 +11,10 @@ pub slice_bounds-flat-end : goal.slice_bounds-flat-end
 slice_bounds-flat-end c = words_there _ _ _ (record { found = c.read_flat-found.result; held = _ }) c.read_flat-found.ensures
 
 -- src/calls.rt:32:16
-pub slice_bounds-copy_words-end : goal.slice_bounds-copy_words-end
-slice_bounds-copy_words-end c = words_long _ _ _ (record { found = c.read_flat-found.result; held = _ }) c.read_flat-found.ensures
+pub slice_bounds-copy_into-end : goal.slice_bounds-copy_into-end
+slice_bounds-copy_into-end c = words_long _ _ _ (record { found = c.read_flat-found.result; held = _ }) c.read_flat-found.ensures
 
 -- src/calls.rt:16:1
 pub returns : goal.returns
 returns c =
-    left_of_lem _ _ c.args.zones.now c.args.answer.now (record { found = c.read_flat-found.result; held = _ }) c.read_flat-found.ensures _ _ _ c.copy_words.ensures c.answer_read.ensures
+    left_of_lem _ _ c.args.zones.now c.args.answer.now (record { found = c.read_flat-found.result; held = _ }) c.read_flat-found.ensures _ _ _ c.copy_into.ensures c.answer_read.ensures

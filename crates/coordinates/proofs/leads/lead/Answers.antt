@@ -10,17 +10,17 @@ returns-then-w-gt-COORDINATE_BYTES c = long_lead _ c.if-w-gt-COORDINATE_BYTES.tr
 -- no digit
 pub returns-then-digits-eq0 : goal.returns-then-digits-eq0
 returns-then-digits-eq0 c =
-    lead_none _ c.if-w-gt-COORDINATE_BYTES.false _ c.sign_at-s.ensures _ c.digits_from-front.ensures _ c.fraction_from-back.ensures
+    lead_none _ c.if-w-gt-COORDINATE_BYTES.false _ c.sign_at-s.ensures _ (rw c.none_at.ensures at c.digits_from-front.ensures) _ c.fraction_from-back.ensures
     _ c.power_lead-p.ensures c.if-digits-eq0.true
 
-pub finish_by-d-requires : goal.finish_by-d-requires
-finish_by-d-requires c = (
-  back_ready _ c.if-w-gt-COORDINATE_BYTES.false _ c.sign_at-s.ensures _ c.digits_from-front.ensures _ c.fraction_from-back.ensures,
+pub finish_by-value-requires : goal.finish_by-value-requires
+finish_by-value-requires c = (
+  back_ready _ c.if-w-gt-COORDINATE_BYTES.false _ c.sign_at-s.ensures _ (rw c.none_at.ensures at c.digits_from-front.ensures) _ c.fraction_from-back.ensures,
   lead_mild _ _ _ c.power_lead-p.ensures,
 )
 
 -- digits, and what stands behind them
 pub returns : goal.returns
 returns c =
-    lead_found _ c.if-w-gt-COORDINATE_BYTES.false _ c.sign_at-s.ensures _ c.digits_from-front.ensures _ c.fraction_from-back.ensures
-    _ c.power_lead-p.ensures c.if-digits-eq0.false _ c.finish_by-d.ensures
+    lead_found _ c.if-w-gt-COORDINATE_BYTES.false _ c.sign_at-s.ensures _ (rw c.none_at.ensures at c.digits_from-front.ensures) _ c.fraction_from-back.ensures
+    _ c.power_lead-p.ensures c.if-digits-eq0.false _ c.finish_by-value.ensures

@@ -1,6 +1,7 @@
 -- `mild_in` looks at the parts of a coordinate one behind the other. Assumes nothing.
 use Rattle.coordinates.proofs.Mildly.{mild_long, front_fits, back_fits, point_inside, end_inside, mild_none, mild_many, mild_found}
 use native.Mathlib.Omega.{arith}
+use Rattle.coordinates.proofs.mild.mild_in.Goals.{then-digits-lt1-via-then-digits-lt1, then-digits-lt1-via-else-digits-lt1+then-most-digits}
 use Rattle.coordinates.proofs.mild.mild_in.Goals as goal
 
 -- too many bytes
@@ -27,17 +28,17 @@ overflow_add-digits c =
           _ c.digits_behind-point.ensures _ c.point_behind-behind.ensures _ c.run_behind-end.ensures,
     )
 
--- no digit
+-- no digit, or too many
 pub returns-then-digits-lt1 : goal.returns-then-digits-lt1
 returns-then-digits-lt1 c =
-    mild_none c.args.w.now c.if-w-gt-COORDINATE_BYTES.false _ c.sign_at-s.ensures
-    _ c.digits_behind-point.ensures _ c.point_behind-behind.ensures _ c.run_behind-end.ensures c.if-digits-lt1.true
-
--- too many digits
-pub returns-then-most-digits : goal.returns-then-most-digits
-returns-then-most-digits c =
-    mild_many c.args.w.now c.if-w-gt-COORDINATE_BYTES.false _ c.sign_at-s.ensures
-    _ c.digits_behind-point.ensures _ c.point_behind-behind.ensures _ c.run_behind-end.ensures c.if-most-digits.true
+    elim c.then-digits-lt1.branch [
+      | then-digits-lt1-via-then-digits-lt1 r ↦
+          mild_none c.args.w.now c.if-w-gt-COORDINATE_BYTES.false _ c.sign_at-s.ensures
+          _ c.digits_behind-point.ensures _ c.point_behind-behind.ensures _ c.run_behind-end.ensures r.if-digits-lt1.true
+      | then-digits-lt1-via-else-digits-lt1+then-most-digits r ↦
+          mild_many c.args.w.now c.if-w-gt-COORDINATE_BYTES.false _ c.sign_at-s.ensures
+          _ c.digits_behind-point.ensures _ c.point_behind-behind.ensures _ c.run_behind-end.ensures r.if-most-digits.true
+    ]
 
 pub power_behind-requires : goal.power_behind-requires
 power_behind-requires c =

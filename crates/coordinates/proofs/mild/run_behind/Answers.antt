@@ -1,5 +1,4 @@
 use Rattle.coordinates.proofs.Eights.{found, run_more, run_stop, run_eight, eight_inside, run_fits}
-use Prim.Native.Nat.{◌-◌}
 use mathlib.Core.Path.{refl, ◌∙◌}
 use native.Mathlib.Omega.{arith}
 use Rattle.coordinates.proofs.mild.run_behind.Goals as goal

@@ -1,6 +1,5 @@
 use Rattle.coordinates.proofs.Eights.{found, roomy, many_stopped, many_more, many_less, many_on}
 use Rattle.coordinates.proofs.Scanning.{scan_start}
-use Prim.Native.Nat.{◌-◌}
 use native.Mathlib.Omega.{arith}
 use Rattle.coordinates.proofs.scan.many_from.Goals as goal
 

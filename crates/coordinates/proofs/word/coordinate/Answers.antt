@@ -11,16 +11,16 @@ returns-then-w-gt-COORDINATE_BYTES c = long_not _ c.if-w-gt-COORDINATE_BYTES.tru
 -- no digit
 pub returns-then-digits-eq0 : goal.returns-then-digits-eq0
 returns-then-digits-eq0 c =
-    none_is _ c.if-w-gt-COORDINATE_BYTES.false _ c.sign_at-s.ensures _ c.digits_from-front.ensures _ c.fraction_from-back.ensures c.if-digits-eq0.true
+    none_is _ c.if-w-gt-COORDINATE_BYTES.false _ c.sign_at-s.ensures _ (rw c.none_at.ensures at c.digits_from-front.ensures) _ c.fraction_from-back.ensures c.if-digits-eq0.true
 
 pub finish_by-requires : goal.finish_by-requires
 finish_by-requires c = (
-  back_ready _ c.if-w-gt-COORDINATE_BYTES.false _ c.sign_at-s.ensures _ c.digits_from-front.ensures _ c.fraction_from-back.ensures,
+  back_ready _ c.if-w-gt-COORDINATE_BYTES.false _ c.sign_at-s.ensures _ (rw c.none_at.ensures at c.digits_from-front.ensures) _ c.fraction_from-back.ensures,
   rw c.power_at-p.ensures (mild _),
 )
 
 -- digits, and what stands behind them
 pub returns : goal.returns
 returns c =
-    found_is _ c.if-w-gt-COORDINATE_BYTES.false _ c.sign_at-s.ensures _ c.digits_from-front.ensures _ c.fraction_from-back.ensures
+    found_is _ c.if-w-gt-COORDINATE_BYTES.false _ c.sign_at-s.ensures _ (rw c.none_at.ensures at c.digits_from-front.ensures) _ c.fraction_from-back.ensures
     c.if-digits-eq0.false _ c.power_at-p.ensures _ c.finish_by.ensures

@@ -1,10 +1,8 @@
 use Rattle.filling.proofs.Single.{past_no, past_is}
 use Rattle.filling.proofs.words.past_left.Goals as goal
 
--- src/words.rt:70:1
-pub returns-in-No : goal.returns-in-No
-returns-in-No c = past_no _ _ c.left_at-p.ensures _ c.in-No.is
+pub returns-in-Ok : goal.returns-in-Ok
+returns-in-Ok c = past_is _ _ c.left_at.ensures _ c.in-Ok.is
 
--- src/words.rt:70:1
-pub returns-in-To : goal.returns-in-To
-returns-in-To c = past_is _ _ c.left_at-p.ensures _ c.in-To.is
+pub returns-in-Err : goal.returns-in-Err
+returns-in-Err c = past_no _ _ c.left_at.ensures _ c.in-Err.is

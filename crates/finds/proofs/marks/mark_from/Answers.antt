@@ -1,28 +1,25 @@
+use Rattle.std.proofs.Common.{rules}
 use mathlib.Core.Path.{ap}
+use Rattle.tokens.specs.declared.Run.{Run}
 use Rattle.tokens.specs.Tokens.{class_of}
-use Rattle.tokens.proofs.Passing.{is_plain, plain_passes}
-use native.Mathlib.Omega.{arith}
+use Rattle.tokens.proofs.Laws.{run_out, run_stop}
+use Rattle.finds.specs.Eights.{goes}
+use Rattle.finds.proofs.Shown.{marks_show}
 use Rattle.finds.proofs.marks.mark_from.Goals as goal
+use Rattle.finds.proofs.marks.mark_from.Goals.{then-b-eq34-via-then-b-eq34, then-b-eq34-via-else-b-eq34+then-b-eq40, then-b-eq34-via-else-b-eq34+else-b-eq40+then-b-eq41}
 
--- src/marks.rt:58:9
 pub returns-then-s-at : goal.returns-then-s-at
-returns-then-s-at c = plain_passes.out _ _ c.if-s-at.true
+returns-then-s-at c = run_out Run.Plain _ _ c.if-s-at.true
 
--- src/marks.rt:62:9
-pub returns-then-b-eq-QUOTE : goal.returns-then-b-eq-QUOTE
+-- a mark there
+pub returns-then-b-eq34 : goal.returns-then-b-eq34
 unfolding class_of
-returns-then-b-eq-QUOTE c = plain_passes.stop _ _ (omega (arith, c.if-s-at.false)) (ap is_plain c.if-b-eq-QUOTE.true)
+returns-then-b-eq34 c =
+    elim c.then-b-eq34.branch [
+      | then-b-eq34-via-then-b-eq34 w ↦ run_stop Run.Plain _ _ c.if-s-at.false (ap (goes Run.Plain) w.if-b-eq34.true)
+      | then-b-eq34-via-else-b-eq34+then-b-eq40 w ↦ run_stop Run.Plain _ _ c.if-s-at.false (ap (goes Run.Plain) w.if-b-eq40.true)
+      | then-b-eq34-via-else-b-eq34+else-b-eq40+then-b-eq41 w ↦ run_stop Run.Plain _ _ c.if-s-at.false (ap (goes Run.Plain) w.if-b-eq41.true)
+    ]
 
--- src/marks.rt:65:9
-pub returns-then-b-eq-LEFT : goal.returns-then-b-eq-LEFT
-unfolding class_of
-returns-then-b-eq-LEFT c = plain_passes.stop _ _ (omega (arith, c.if-s-at.false)) (ap is_plain c.if-b-eq-LEFT.true)
-
--- src/marks.rt:68:9
-pub returns-then-b-eq-RIGHT : goal.returns-then-b-eq-RIGHT
-unfolding class_of
-returns-then-b-eq-RIGHT c = plain_passes.stop _ _ (omega (arith, c.if-s-at.false)) (ap is_plain c.if-b-eq-RIGHT.true)
-
--- src/marks.rt:54:1
 pub returns : goal.returns
-returns c = c.eights_from.ensures
+returns c = c.run_from.ensures Run.Plain (marks_show _ (λ x r a. search rules))

@@ -1,4 +1,4 @@
-use Prim.Native.Nat.{◌-◌}
+use Prim.Native.Nat.{◌+◌}
 use Rattle.lines.proofs.Numbers.{summing_start, summing_room, summing_more, summing_end, summing_out}
 use native.Mathlib.Omega.{arith}
 use Rattle.lines.proofs.listed.number_in.Goals as goal
@@ -16,16 +16,12 @@ pub returns-then-list-j : goal.returns-then-list-j
 returns-then-list-j c = summing_out _ _ _ _ _ c.loop-i.invariant c.if-list-j.true
 
 -- src/listed.rt:30:13
-pub overflow_mul-v : goal.overflow_mul-v
-overflow_mul-v c = record { fits = omega (arith, summing_room _ _ _ _ _ c.loop-i.invariant c.loop-i-test.true c.requires.0 _ c.wide-low.ensures.1) }
-
--- src/listed.rt:30:13
 pub overflow_add-v : goal.overflow_add-v
-overflow_add-v c = record { fits = summing_room _ _ _ _ _ c.loop-i.invariant c.loop-i-test.true c.requires.0 _ c.wide-low.ensures.1 }
+overflow_add-v c = record { fits = summing_room _ _ _ _ _ c.loop-i.invariant c.loop-i-test.true c.requires.0 _ (omega (arith, c.from.ensures, c.type_inv.list (c.args.at + c.loop-i.i))) }
 
 -- src/listed.rt:24:5
 pub loop-i-preserved : goal.loop-i-preserved
-loop-i-preserved c = summing_more _ _ _ _ _ c.loop-i.invariant _ c.wide-low.ensures.0 c.wide-low.ensures.1 c.loop-i-test.true c.if-list-j.false
+loop-i-preserved c = summing_more _ _ _ _ _ c.loop-i.invariant _ c.from.ensures (omega (arith, c.from.ensures, c.type_inv.list (c.args.at + c.loop-i.i))) c.loop-i-test.true c.if-list-j.false
 
 -- src/listed.rt:18:1
 pub returns : goal.returns

@@ -1,4 +1,3 @@
-use Prim.Native.Nat.{◌-◌}
 use Rattle.lines.proofs.Listing.{lining_start, lining_more, lining_end, extra_small}
 use native.Mathlib.Omega.{arith}
 use Rattle.lines.proofs.listed.put_faults.Goals as goal

@@ -1,11 +1,18 @@
 -- `nodefaults::marks::again_marks` meets its contract: the test of each position that is looked at. Assumes nothing.
-use Rattle.nodefaults.proofs.Marked.{again_read, again_few}
+use mathlib.Core.Path.{◌≡◌, ◌∙◌}
 use borrow.Author.Rules.{rules}
+use lib.ListN.{length}
+use Rattle.nodefaults.proofs.Marked.{again, again_0, again_1, again_2, again_3, cut_read, cut_few}
 use Rattle.nodefaults.proofs.marks.again_marks.Goals as goal
 
 pub returns-then-looked-lt-SOLID_LEAST : goal.returns-then-looked-lt-SOLID_LEAST
-returns-then-looked-lt-SOLID_LEAST c = again_few c.args.row c.args.looked (search rules) c.if-looked-lt-SOLID_LEAST.true c.looked_bits.ensures
+returns-then-looked-lt-SOLID_LEAST c =
+    let l = c.args.row in
+    let h : length c.args.row ≡ 4 = search rules in
+    cut_few (again l h) c.args.looked c.if-looked-lt-SOLID_LEAST.true (again_0 l h) (again_1 l h) c.looked_bits.ensures
 
 pub returns : goal.returns
 returns c =
-    again_read c.args.row c.args.looked (search rules) c.requires c.is_one_of_two-second.ensures c.is_one_of_three-third.ensures c.looked_bits-2.ensures
+    let l = c.args.row in
+    let h : length c.args.row ≡ 4 = search rules in
+    cut_read (again l h) c.args.looked c.requires (again_0 l h) (again_1 l h) (c.contains.ensures.value ∙ again_2 l h) (c.contains-2.ensures.value ∙ again_3 l h) c.looked_bits-2.ensures

@@ -1,6 +1,5 @@
 -- `nodefaults::sound::any_node_fault` meets its contract: one way for each test, over the four words of the row. Assumes nothing.
-use mathlib.Core.Path.{◌≡◌, sym, ◌∙◌}
-use lib.ListN.{length}
+use mathlib.Core.Path.{sym, ◌∙◌}
 use Rattle.nodefaults.proofs.OfNodes.{nodes_pair, nodes_flat, nodes_third, nodes_3, nodes_4, nodes_other}
 use borrow.Author.Rules.{rules}
 use Rattle.nodefaults.proofs.sound.any_node_fault.Goals as goal

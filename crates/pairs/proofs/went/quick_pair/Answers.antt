@@ -9,32 +9,31 @@ pub returns-then-size-start : goal.returns-then-size-start
 returns-then-size-start c = went_past _ _ _ c.start-start.ensures c.if-size-start.true
 
 -- no mild coordinate
-pub returns-in_default : goal.returns-in_default
-returns-in_default c =
-    went_none _ _ _ c.start-start.ensures _
-    (mild_here _ _ _ _ _ c.start-start.ensures (omega (arith, c.if-size-start.false)) c.window_end-end.ensures c.mild_in-m.ensures)
-    c.in_default.is
+pub returns-in_err-count : goal.returns-in_err-count
+returns-in_err-count c =
+    let b = c.start-start.ensures in
+    c.from_residual.ensures
+    ∙ went_none _ _ _ b _ (mild_here _ _ _ _ _ b (omega (arith, c.if-size-start.false)) c.window_end-end.ensures c.mild_in.ensures) c.in_err-count.was
 
 pub overflow_add-next : goal.overflow_add-next
 overflow_add-next c =
-    let a = c.args in
+    let b = c.start-start.ensures in
     omega (
       arith,
-      went_fits a.s.now a.at _ c.start-start.ensures _
-          (mild_here _ _ _ _ _ c.start-start.ensures (omega (arith, c.if-size-start.false)) c.window_end-end.ensures c.mild_in-m.ensures)
-          _ c.in-To.is,
+      went_fits _ _ _ b _ (mild_here _ _ _ _ _ b (omega (arith, c.if-size-start.false)) c.window_end-end.ensures c.mild_in.ensures) _
+          c.in_ok-count.was,
     )
 
 -- one, and the word ends
-pub returns-then-ends : goal.returns-then-ends
-returns-then-ends c =
-    went_to _ _ _ c.start-start.ensures _
-    (mild_here _ _ _ _ _ c.start-start.ensures (omega (arith, c.if-size-start.false)) c.window_end-end.ensures c.mild_in-m.ensures)
-    _ c.in-To.is (sym c.ends_word-ends.ensures ∙ c.if-ends.true)
+pub returns-then-ends_word : goal.returns-then-ends_word
+returns-then-ends_word c =
+    let b = c.start-start.ensures in
+    went_to _ _ _ b _ (mild_here _ _ _ _ _ b (omega (arith, c.if-size-start.false)) c.window_end-end.ensures c.mild_in.ensures) _
+    c.in_ok-count.was (sym c.ends_word.ensures ∙ c.if-ends_word.true)
 
 -- one, and the word goes on
 pub returns : goal.returns
 returns c =
-    went_on _ _ _ c.start-start.ensures _
-    (mild_here _ _ _ _ _ c.start-start.ensures (omega (arith, c.if-size-start.false)) c.window_end-end.ensures c.mild_in-m.ensures)
-    _ c.in-To.is (sym c.ends_word-ends.ensures ∙ c.if-ends.false)
+    let b = c.start-start.ensures in
+    went_on _ _ _ b _ (mild_here _ _ _ _ _ b (omega (arith, c.if-size-start.false)) c.window_end-end.ensures c.mild_in.ensures) _
+    c.in_ok-count.was (sym c.ends_word.ensures ∙ c.if-ends_word.false)

@@ -1,26 +1,12 @@
-use mathlib.Core.Path.{refl, ◌∙◌}
-use Rattle.points.proofs.Pointed.{pointing_start, pointing_more, pointing_end}
-use native.Mathlib.Omega.{arith}
+use mathlib.Core.Path.{◌∙◌}
+use Rattle.points.proofs.Pointed.{pointing_more, pointing_end}
 use Rattle.points.proofs.body.put_all.Goals as goal
 
-pub loop-rest-init : goal.loop-rest-init
-loop-rest-init c = (refl, refl, pointing_start _ _ _ _ _ _)
+pub loop-j-preserved : goal.loop-j-preserved
+loop-j-preserved c =
+    let h = c.loop-j.invariant in
+    let p = c.put_point-c.ensures in
+    (pointing_more _ _ _ _ _ _ _ _ _ h.0 _ _ c.loop-j-test.true p.rows, (p.same_references.0 ∙ h.1.0, p.same_references.1 ∙ h.1.1))
 
-pub put_point-c-requires : goal.put_point-c-requires
-put_point-c-requires c = (c.requires.0, omega (arith, c.loop-rest.invariant.2.index, c.requires.1))
-
-pub overflow_add-i : goal.overflow_add-i
-overflow_add-i c = omega (arith, c.loop-rest.invariant.2.index, c.requires.1)
-
-pub loop-rest-preserved : goal.loop-rest-preserved
-loop-rest-preserved c =
-    (c.put_point-c.auto.mantissas ∙ c.loop-rest.invariant.0, c.put_point-c.auto.exponents ∙ c.loop-rest.invariant.1, pointing_more _ _ _ _ _ _ _ _ _ _ c.loop-rest.invariant.2 _ _ c.loop-rest-test.true c.put_point-c.ensures)
-
-pub shape_of-mantissas : goal.shape_of-mantissas
-shape_of-mantissas c = c.loop-rest.invariant.0
-
-pub shape_of-exponents : goal.shape_of-exponents
-shape_of-exponents c = c.loop-rest.invariant.1
-
-pub returns : goal.returns
-returns c = pointing_end _ _ _ _ _ _ _ _ _ _ c.loop-rest.invariant.2 c.loop-rest-test.false
+pub returns-clause-rows : goal.returns-clause-rows
+returns-clause-rows c = pointing_end _ _ _ _ _ _ _ _ _ c.loop-j.invariant.0 c.loop-j-test.false

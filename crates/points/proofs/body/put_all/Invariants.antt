@@ -1,10 +1,6 @@
-use mathlib.Core.Path.{◌≡◌}
-use lib.ListN.{length}
+use Rattle.points.specs.Points.{seen, Kept}
 use Rattle.points.proofs.Pointed.{Pointing}
 use Rattle.points.proofs.body.put_all.Given as goal
 
-abbrev pub invariant-loop-rest : goal.invariant-loop-rest
-invariant-loop-rest l = (length l.mantissas ≡ length l.initial.mantissas) × (length l.exponents ≡ length l.initial.exponents) × Pointing l.s l.d l.at l.n l.k (record { mantissas = l.initial.mantissas; exponents = l.initial.exponents }) l.c l.rest l.i (record { mantissas = l.mantissas; exponents = l.exponents })
-
-abbrev pub decreases-loop-rest : goal.decreases-loop-rest
-decreases-loop-rest l = l.rest
+abbrev pub invariant-loop-j : goal.invariant-loop-j
+invariant-loop-j l = Pointing l.s l.d l.at l.n l.k (seen l.initial.lent) l.c l.j (seen l.lent) × Kept l.initial.lent l.lent

@@ -1,23 +1,12 @@
-use mathlib.Core.Path.{refl, ◌∙◌}
-use Rattle.points.proofs.Pointed.{pairing_start, pairing_more, pairing_end}
-use native.Mathlib.Omega.{arith}
+use mathlib.Core.Path.{◌∙◌}
+use Rattle.points.proofs.Pointed.{pairing_more, pairing_end}
 use Rattle.points.proofs.pair.put_pairs.Goals as goal
 
-pub loop-left-init : goal.loop-left-init
-loop-left-init c = (refl, refl, pairing_start _ _ _ _ _)
+pub loop-i-preserved : goal.loop-i-preserved
+loop-i-preserved c =
+    let h = c.loop-i.invariant in
+    let p = c.put_pair-c.ensures in
+    (pairing_more _ _ _ _ _ _ _ _ h.0 _ _ c.loop-i-test.true p.rows, (p.same_references.0 ∙ h.1.0, p.same_references.1 ∙ h.1.1))
 
-pub overflow_add-i : goal.overflow_add-i
-overflow_add-i c = omega (arith, c.loop-left.invariant.2.index, c.requires)
-
-pub loop-left-preserved : goal.loop-left-preserved
-loop-left-preserved c =
-    (c.put_pair-c.auto.mantissas ∙ c.loop-left.invariant.0, c.put_pair-c.auto.exponents ∙ c.loop-left.invariant.1, pairing_more _ _ _ _ _ _ _ _ _ c.loop-left.invariant.2 _ _ c.loop-left-test.true c.put_pair-c.ensures)
-
-pub shape_of-mantissas : goal.shape_of-mantissas
-shape_of-mantissas c = c.loop-left.invariant.0
-
-pub shape_of-exponents : goal.shape_of-exponents
-shape_of-exponents c = c.loop-left.invariant.1
-
-pub returns : goal.returns
-returns c = pairing_end _ _ _ _ _ _ _ _ _ c.loop-left.invariant.2 c.loop-left-test.false
+pub returns-clause-rows : goal.returns-clause-rows
+returns-clause-rows c = pairing_end _ _ _ _ _ _ _ _ c.loop-i.invariant.0 c.loop-i-test.false

@@ -1,14 +1,10 @@
-use Prim.Native.Nat.{◌+◌}
-use lib.ListN.{set, length-set}
+use lib.ListN.{length-set}
 use Rattle.figures.proofs.Figures.{figures_some}
 use Rattle.putting.proofs.Counting.{count_small}
 use Rattle.putting.proofs.Figuring.{laid_counted, laid_there}
-use Rattle.putting.proofs.Signs.{signed_few, signed_long, signed_kept, signed_laid}
+use Rattle.putting.proofs.Signs.{signed_few, signed_long, signed_laid}
 use native.Mathlib.Omega.{arith}
 use Rattle.putting.proofs.signed.lay_signed.Goals as goal
-
-pub overflow_add-before : goal.overflow_add-before
-overflow_add-before c = omega (arith, signed_few _ c.ranges.z c.magnitude-n.ensures c.sign_count-before.ensures)
 
 pub overflow_add-long : goal.overflow_add-long
 overflow_add-long c =
@@ -16,19 +12,12 @@ overflow_add-long c =
 
 pub bounds-out-sign : goal.bounds-out-sign
 bounds-out-sign c =
-    let a = c.args in omega (arith, c.past-next.ensures, c.if-next-out.true, c.decimal_count-count.ensures, figures_some 10 (omega arith) (omega arith) c.magnitude-n.result, length-set a.out.now a.at a.lead)
-
-pub lay_figures-requires : goal.lay_figures-requires
-lay_figures-requires c =
-    let a = c.args in (omega arith, omega arith, c.decimal_count-count.ensures, omega (arith, c.past-next.ensures, c.if-next-out.true, length-set (set a.out.now a.at a.lead) (a.at + 1) 45, length-set a.out.now a.at a.lead))
-
-pub shape_of-out : goal.shape_of-out
-shape_of-out c = let a = c.args in signed_kept a.z c.ranges.z c.magnitude-n.ensures c.sign_count-before.ensures a.lead a.at a.out.now _ c.lay_figures.ensures
+    let a = c.args in omega (arith, c.saturating_add-next.ensures, c.if-next-out.true, c.decimal_count-count.ensures, figures_some 10 (omega arith) (omega arith) c.magnitude-n.result, length-set a.out.now a.at a.lead)
 
 pub returns-then-next-out : goal.returns-then-next-out
 returns-then-next-out c =
-    let a = c.args in let m = c.magnitude-n.ensures in laid_there _ _ _ (omega arith) _ _ (signed_long a.z c.ranges.z m c.sign_count-before.ensures a.lead c.decimal_count-count.ensures) c.past-next.ensures c.if-next-out.true _ (signed_laid a.z c.ranges.z m c.sign_count-before.ensures a.lead a.at a.out.now _ c.lay_figures.ensures)
+    let a = c.args in let m = c.magnitude-n.ensures in laid_there _ _ _ (omega arith) _ _ (signed_long a.z c.ranges.z m c.sign_count-before.ensures a.lead c.decimal_count-count.ensures) c.saturating_add-next.ensures c.if-next-out.true _ (signed_laid a.z c.ranges.z m c.sign_count-before.ensures a.lead a.at a.out.now _ c.lay_figures.ensures)
 
 pub returns-else-next-out : goal.returns-else-next-out
 returns-else-next-out c =
-    laid_counted _ _ _ (omega arith) _ _ (signed_long c.args.z c.ranges.z c.magnitude-n.ensures c.sign_count-before.ensures c.args.lead c.decimal_count-count.ensures) c.past-next.ensures c.if-next-out.false
+    laid_counted _ _ _ (omega arith) _ _ (signed_long c.args.z c.ranges.z c.magnitude-n.ensures c.sign_count-before.ensures c.args.lead c.decimal_count-count.ensures) c.saturating_add-next.ensures c.if-next-out.false

@@ -6,12 +6,10 @@ use Rattle.reader.proofs.zones.fill.Goals as goal
 
 pub loop-i-init : goal.loop-i-init
 unfolding filled
-loop-i-init c = (omega arith, refl)
+loop-i-init c = refl
 
 pub loop-i-preserved : goal.loop-i-preserved
-loop-i-preserved c = (
-  omega arith,
-  ap (λ l. set l c.loop-i.i c.zone_at-z.result) c.loop-i.invariant.1
-      ∙ ap (λ z. set (filled c.args.flat c.loop-i.i c.args.zs.now) c.loop-i.i z) c.zone_at-z.ensures
-      ∙ sym (filled_next c.args.flat c.loop-i.i c.args.zs.now),
-)
+loop-i-preserved c =
+    ap (λ l. set l c.loop-i.i c.zone_at.result) c.loop-i.invariant
+    ∙ ap (λ z. set (filled c.args.flat.now c.loop-i.i c.args.zs.now) c.loop-i.i z) c.zone_at.ensures
+    ∙ sym (filled_next c.args.flat.now c.loop-i.i c.args.zs.now)

@@ -1,12 +1,8 @@
-use mathlib.Core.Path.{◌≡◌}
+use Prim.Native.Nat.{◌+◌, ◌-◌, ◌*◌}
 use mathlib.Core.List.{[], ◌∷◌}
-use lib.ListN.{length}
 use Rattle.again.proofs.Many.{Repeating}
 use lib.Seq.{sets}
 use Rattle.rows.proofs.body.put_copies.Given as goal
 
-abbrev pub invariant-loop-left : goal.invariant-loop-left
-invariant-loop-left l = (length l.rows ≡ length l.initial.rows) × Repeating sets (l.element ∷ l.ztype ∷ []) l.n l.k l.initial.rows l.left l.i l.rows
-
-abbrev pub decreases-loop-left : goal.decreases-loop-left
-decreases-loop-left l = l.left
+abbrev pub invariant-loop-j : goal.invariant-loop-j
+invariant-loop-j l = Repeating sets (l.element ∷ l.ztype ∷ []) l.n l.k l.initial.rows (l.n - l.j) (l.k + l.j * 2) l.rows

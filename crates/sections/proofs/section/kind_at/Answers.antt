@@ -1,11 +1,14 @@
-use Rattle.sections.proofs.Sections.{header_no, header_to}
+use Rattle.std.proofs.lemmas.Result.{err_from_is_err_and}
+use Rattle.sections.proofs.Sections.{read_no, read_to}
 use Rattle.layout.specs.Sections.{kind_of}
 use Rattle.sections.proofs.section.kind_at.Goals as goal
 
-pub returns-in-No : goal.returns-in-No
+pub returns-in_err-head : goal.returns-in_err-head
 unfolding kind_of
-returns-in-No c = header_no _ _ _ c.head_at-header.ensures _ c.in-No.is
+returns-in_err-head c =
+    let p = err_from_is_err_and c.from_residual.result c.from_residual.ensures.1 in
+    rw (p.1, p.2) (read_no _ _ _ c.head_at.ensures _ c.in_err-head.was)
 
-pub returns-in-Is : goal.returns-in-Is
+pub returns : goal.returns
 unfolding kind_of
-returns-in-Is c = header_to _ _ _ c.head_at-header.ensures _ _ c.in-Is.is _ c.behind_head.ensures
+returns c = read_to _ _ _ c.head_at.ensures _ c.in_ok-head.was c.behind_head.ensures

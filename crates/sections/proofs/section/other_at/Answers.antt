@@ -1,8 +1,11 @@
+use Rattle.std.proofs.lemmas.Result.{err_from_is_err_and}
 use Rattle.sections.proofs.Sections.{other_no, other_to}
 use Rattle.sections.proofs.section.other_at.Goals as goal
 
-pub returns-in-No : goal.returns-in-No
-returns-in-No c = other_no _ _ _ c.skip_from-p.ensures _ c.in-No.is
+pub returns-in_err-next : goal.returns-in_err-next
+returns-in_err-next c = λ room.
+    let p = err_from_is_err_and c.from_residual.result c.from_residual.ensures.1 in
+    rw (p.1, p.2) (other_no _ _ room c.skip_from.ensures _ c.in_err-next.was)
 
-pub returns-in-To : goal.returns-in-To
-returns-in-To c = other_to _ _ _ c.skip_from-p.ensures _ c.in-To.is
+pub returns : goal.returns
+returns c = λ room. other_to _ _ room c.skip_from.ensures _ c.in_ok-next.was

@@ -1,12 +1,12 @@
+use Rattle.std.proofs.lemmas.Result.{err_from_is_err_and}
 use Rattle.notes.specs.declared.note.Met.{Met}
-use Rattle.sections.proofs.Sections.{body_as}
-use Rattle.sections.proofs.Sections.{rows_no, rows_to}
+use Rattle.sections.proofs.Sections.{body_as, rows_no, rows_to}
 use Rattle.sections.proofs.section.rows_at.Goals as goal
 
-pub returns-in-No : goal.returns-in-No
-returns-in-No c =
-    let a = c.args in rows_no _ _ (Met.Part a.kind a.h) (body_as a.s.now a.at a.kind a.dim a.h c.dim_word-word.ensures c.dim_after-d.ensures c.count_of-n.ensures c.body_at-p.ensures) _ c.in-No.is
+pub returns-in_err-behind : goal.returns-in_err-behind
+returns-in_err-behind c =
+    let p = err_from_is_err_and c.from_residual.result c.from_residual.ensures.1 in
+    rw (p.1, p.2) (rows_no _ _ (Met.Part c.args.kind c.args.h) (body_as c.args.s.now c.args.at c.args.kind c.args.dim c.args.h c.word-fifth.ensures c.dim_word-word.ensures c.dim_after-d.ensures c.count_of-n.ensures c.body_at.ensures) _ c.in_err-behind.was)
 
-pub returns-in-To : goal.returns-in-To
-returns-in-To c =
-    let a = c.args in rows_to _ _ (Met.Part a.kind a.h) (body_as a.s.now a.at a.kind a.dim a.h c.dim_word-word.ensures c.dim_after-d.ensures c.count_of-n.ensures c.body_at-p.ensures) _ c.in-To.is _ c.end_at.ensures
+pub returns : goal.returns
+returns c = rows_to _ _ (Met.Part c.args.kind c.args.h) (body_as c.args.s.now c.args.at c.args.kind c.args.dim c.args.h c.word-fifth.ensures c.dim_word-word.ensures c.dim_after-d.ensures c.count_of-n.ensures c.body_at.ensures) _ c.in_ok-behind.was c.end_at.ensures

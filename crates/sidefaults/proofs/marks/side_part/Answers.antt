@@ -1,56 +1,6 @@
 -- `sidefaults::marks::side_part` meets its contract: the bits of kinds 4 to 7 added, or no fault in them. Assumes nothing.
-use native.Mathlib.Omega.{arith}
-use Rattle.faults.proofs.Marked.{side_part_small}
 use Rattle.sidefaults.proofs.Marked.{side_none, sides_joined}
 use Rattle.sidefaults.proofs.marks.side_part.Goals as goal
-
-pub overflow_add-result : goal.overflow_add-result
-overflow_add-result c =
-    let a = c.args in
-    omega (
-      arith,
-      side_part_small a.frame a.face,
-      sides_joined a.frame a.face c.bit_if-right.ensures c.bit_if-left.ensures
-          c.is_same.ensures c.bit_if-same.ensures
-          c.is_open.ensures c.bit_if-open.ensures
-          c.is_loose.ensures c.bit_if-loose.ensures,
-    )
-
-pub overflow_add-result-then-faulty : goal.overflow_add-result-then-faulty
-overflow_add-result-then-faulty c =
-    let a = c.args in
-    omega (
-      arith,
-      side_part_small a.frame a.face,
-      sides_joined a.frame a.face c.bit_if-right.ensures c.bit_if-left.ensures
-          c.is_same.ensures c.bit_if-same.ensures
-          c.is_open.ensures c.bit_if-open.ensures
-          c.is_loose.ensures c.bit_if-loose.ensures,
-    )
-
-pub overflow_add-result-then-faulty-2 : goal.overflow_add-result-then-faulty-2
-overflow_add-result-then-faulty-2 c =
-    let a = c.args in
-    omega (
-      arith,
-      side_part_small a.frame a.face,
-      sides_joined a.frame a.face c.bit_if-right.ensures c.bit_if-left.ensures
-          c.is_same.ensures c.bit_if-same.ensures
-          c.is_open.ensures c.bit_if-open.ensures
-          c.is_loose.ensures c.bit_if-loose.ensures,
-    )
-
-pub overflow_add-result-then-faulty-3 : goal.overflow_add-result-then-faulty-3
-overflow_add-result-then-faulty-3 c =
-    let a = c.args in
-    omega (
-      arith,
-      side_part_small a.frame a.face,
-      sides_joined a.frame a.face c.bit_if-right.ensures c.bit_if-left.ensures
-          c.is_same.ensures c.bit_if-same.ensures
-          c.is_open.ensures c.bit_if-open.ensures
-          c.is_loose.ensures c.bit_if-loose.ensures,
-    )
 
 pub returns-then-faulty : goal.returns-then-faulty
 returns-then-faulty c =

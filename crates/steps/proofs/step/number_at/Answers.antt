@@ -31,4 +31,4 @@ pub returns-in_default-v : goal.returns-in_default-v
 returns-in_default-v c = number_bad _ _ _ c.token-t.ensures _ c.in-Word.is _ c.whole_for-v.ensures c.in_default-v.is _ c.bad_at-bad.ensures
 
 pub returns : goal.returns
-returns c = number_is _ _ _ c.token-t.ensures c.args.sort c.in-Word.is _ c.whole_for-v.ensures _ c.in-Is.is
+returns c = number_is _ _ _ c.token-t.ensures c.args.sort c.in-Word.is _ c.whole_for-v.ensures _ c.in-Some.is

@@ -1,6 +1,4 @@
 use borrow.Enum.Refused.{opened}
-use borrow.Author.Rules.{sfits_of}
-use mir.ValLaws.{to_z-of_z}
 use Rattle.steps.proofs.Taken.{word_moves, offset_in, pair_not, pair_is, pair_bad}
 use native.Mathlib.Omega.{arith}
 use Rattle.steps.proofs.step.pair_by_token.Goals as goal
@@ -33,7 +31,4 @@ pub returns-in_default-d : goal.returns-in_default-d
 returns-in_default-d c = pair_bad _ _ _ c.token-t.ensures c.in-Word.is _ c.coordinate-d.ensures c.in_default-d.is _ c.bad_at-bad.ensures
 
 pub returns : goal.returns
-returns c =
-    let z = c.in-Is.known_told-1-own.given in
-    rw (to_z-of_z _ _ (sfits_of z.0.1), to_z-of_z _ _ (sfits_of z.1.0.1))
-    (pair_is _ _ _ c.token-t.ensures c.in-Word.is _ c.coordinate-d.ensures _ _ c.in-Is.is)
+returns c = pair_is _ _ _ c.token-t.ensures c.in-Word.is _ c.coordinate-d.ensures _ c.in-Some.is

@@ -1,10 +1,7 @@
-use lib.ListN.{drop}
-use Rattle.writer.specs.inner.Rows.{cell_words_of, cells_bytes}
-use Rattle.writer.proofs.Writing.{Rowing}
+use Rattle.std.proofs.Common.{drop}
+use Rattle.putting.proofs.Laying.{Left}
+use Rattle.writer.specs.inner.Rows.{table_bytes, cell_words_of}
 use Rattle.writer.proofs.cells.put_cells.Given as goal
 
-abbrev pub invariant-loop-left : goal.invariant-loop-left
-invariant-loop-left l = Rowing 2 cell_words_of l.initial.out l.at (cells_bytes l.n (drop l.start l.cells)) l.cells l.out l.c l.k l.left
-
-abbrev pub decreases-loop-left : goal.decreases-loop-left
-decreases-loop-left l = l.left
+abbrev pub invariant-loop-row : goal.invariant-loop-row
+invariant-loop-row l = Left l.initial.out l.at (table_bytes cell_words_of l.rows) l.out l.c (table_bytes cell_words_of (drop l.row-index l.rows))

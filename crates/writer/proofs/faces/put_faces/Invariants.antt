@@ -1,12 +1,11 @@
-use lib.ListN.{drop}
+use Rattle.std.proofs.Common.{drop}
 use Rattle.texts.specs.Writes.{Each}
-use Rattle.texts.specs.Tabled.{rows_of}
+use Rattle.putting.proofs.Laying.{Left}
 use Rattle.writer.specs.inner.Rows.{table_bytes, face_words_of, SomeCorners}
-use Rattle.writer.proofs.Writing.{Rowing}
 use Rattle.writer.proofs.faces.put_faces.Given as goal
 
-abbrev pub invariant-loop-left : goal.invariant-loop-left
-invariant-loop-left l = Rowing 8 (face_words_of l.mixed) l.initial.out l.at (table_bytes 8 (face_words_of l.mixed) l.n (drop l.start l.faces)) l.faces l.out l.c l.k l.left × Each SomeCorners (rows_of 8 l.left (drop l.k l.faces))
-
-abbrev pub decreases-loop-left : goal.decreases-loop-left
-decreases-loop-left l = l.left
+abbrev pub invariant-loop-row : goal.invariant-loop-row
+invariant-loop-row l = record {
+  laying : Left l.initial.out l.at (table_bytes (face_words_of l.mixed) l.rows) l.out l.c (table_bytes (face_words_of l.mixed) (drop l.row-index l.rows));
+  corners : Each SomeCorners (drop l.row-index l.rows);
+}

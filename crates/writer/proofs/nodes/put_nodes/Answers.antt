@@ -1,17 +1,14 @@
-use Rattle.putting.proofs.Laying.{left_start, left_end}
+use Rattle.std.proofs.Common.{arith, ap, length, rules}
+use Rattle.std.proofs.lemmas.Iterator.{empty_from_Zip}
+use Rattle.putting.proofs.Laying.{left_end}
 use Rattle.writer.proofs.Points.{nodes_more, nodes_none}
-use native.Mathlib.Omega.{arith}
 use Rattle.writer.proofs.nodes.put_nodes.Goals as goal
 
-pub loop-left-init : goal.loop-left-init
-loop-left-init c = (left_start _ (omega arith) (omega arith), c.requires.0, c.requires.1)
-
-pub loop-left-preserved : goal.loop-left-preserved
-loop-left-preserved c =
-    let a = c.args in let t = c.loop-left-test.true in (nodes_more _ _ c.loop-left.k a.ms.now a.es.now c.loop-left.invariant.0 t c.put_point-c.ensures, omega (arith, t, c.loop-left.invariant.1), omega (arith, t, c.loop-left.invariant.2))
-
-pub shape_of-out : goal.shape_of-out
-shape_of-out c = c.loop-left.invariant.0.kept
+pub loop-m-preserved : goal.loop-m-preserved
+loop-m-preserved c =
+    let s = c.in-Some.ensures.steps in
+    let g = c.loop-m.invariant in
+    record { same = omega (arith, g.same, ap length s.0, ap length s.1); laying = nodes_more c.args.d _ _ _ _ g.laying s.0 s.1 c.put_point-c.ensures }
 
 pub returns : goal.returns
-returns c = left_end c.loop-left.invariant.0 (nodes_none _ _ _ _ c.loop-left-test.false)
+returns c = let spent = empty_from_Zip _ c.next.new.self _ c.in-None.is c.next.ensures.steps (search rules) in left_end c.loop-m.invariant.laying (nodes_none _ _ _ spent.0)

@@ -1,27 +1,33 @@
-use mathlib.Core.Path.{subst}
-use borrow.Author.Tests.{not-true, not-false}
+use Rattle.std.proofs.Common.{◌≡◌, ◌∙◌, ◌/◌, sym, subst, ap, map, length, []}
+use Rattle.texts.specs.Writes.{Each}
+use Rattle.texts.specs.Judged.{all_by, rows_fit}
+use Rattle.texts.specs.Write.{zone_in, records_in}
+use Rattle.writer.specs.inner.Tables.{held}
 use Rattle.writer.specs.inner.Sections.{Ranged}
-use Rattle.writer.proofs.Reviewing.{reviewing_start, reviewing_room, reviewing_first, reviewing_off, reviewing_more, reviewing_end}
-use mathlib.Core.Path.{sym}
+use Rattle.writer.proofs.Sections.{zones_rows, each_rest}
+use Rattle.writer.proofs.Reviewing.{reviewing_off, reviewing_more, reviewing_end}
 use Rattle.writer.proofs.rows.rows_fit.Goals as goal
 
-pub loop-left-init : goal.loop-left-init
-loop-left-init c = reviewing_start _ _ _ _ _ _ c.requires
-
-pub zone_at-z-requires : goal.zone_at-z-requires
-zone_at-z-requires c = reviewing_room _ _ _ _ _ _ _ _ c.loop-left.invariant c.loop-left-test.true
-
-pub section_fits-requires : goal.section_fits-requires
-section_fits-requires c =
-    let a = c.args in subst (Ranged a.ms.now a.es.now a.faces.now a.cells.now) (sym c.zone_at-z.ensures) (reviewing_first _ _ _ _ _ _ _ _ c.loop-left.invariant c.loop-left-test.true)
+pub loop-row-init : goal.loop-row-init
+loop-row-init c =
+    let a = c.args in
+    let e : records_in a.zones.now ≡ map zone_in c.as_chunks.result.0.now = sym (zones_rows (length a.zones.now / 6) a.zones.now) ∙ ap (map zone_in) (sym c.as_chunks.ensures.front) in
+    record {
+      ranged = subst (Each (Ranged (held a.tables))) e c.requires;
+      same = ap (all_by (rows_fit a.d (held a.tables))) (sym e);
+    }
 
 pub returns-then-not-section_fits : goal.returns-then-not-section_fits
-returns-then-not-section_fits c =
-    reviewing_off _ _ _ _ _ _ _ _ c.loop-left.invariant _ c.zone_at-z.ensures c.loop-left-test.true c.section_fits.ensures (not-true _ c.if-not-section_fits.true-raw)
+returns-then-not-section_fits c = reviewing_off _ _ _ _ c.loop-row.invariant.same c.loop-row-test.true c.zone_of.ensures c.section_fits.ensures c.if-not-section_fits.true
 
-pub loop-left-preserved : goal.loop-left-preserved
-loop-left-preserved c =
-    reviewing_more _ _ _ _ _ _ _ _ c.loop-left.invariant _ c.zone_at-z.ensures c.loop-left-test.true c.section_fits.ensures (not-false _ c.if-not-section_fits.false-raw)
+pub loop-row-preserved : goal.loop-row-preserved
+loop-row-preserved c =
+    let a = c.args in
+    let g = c.loop-row.invariant in
+    record {
+      ranged = each_rest (Ranged (held a.tables)) _ _ c.loop-row-test.true g.ranged;
+      same = reviewing_more _ _ _ _ g.same c.loop-row-test.true c.zone_of.ensures c.section_fits.ensures c.if-not-section_fits.false;
+    }
 
 pub returns : goal.returns
-returns c = reviewing_end _ _ _ _ _ _ _ _ c.loop-left.invariant c.loop-left-test.false
+returns c = reviewing_end _ _ _ [] c.loop-row.invariant.same c.loop-row-test.false

@@ -1,11 +1,14 @@
-use Prim.Native.Nat.{◌/◌}
-use lib.ListN.{length}
-use Rattle.writer.specs.inner.Sections.{parts_bytes}
-use Rattle.writer.proofs.Sections.{Parting}
+use Rattle.std.proofs.Common.{map, drop}
+use Rattle.texts.specs.Writes.{Each}
+use Rattle.texts.specs.Write.{zone_in, records_in}
+use Rattle.putting.proofs.Laying.{Left}
+use Rattle.writer.specs.inner.Tables.{held}
+use Rattle.writer.specs.inner.Sections.{parts_bytes, Puttable}
 use Rattle.writer.proofs.section.put_parts.Given as goal
 
-abbrev pub invariant-loop-left : goal.invariant-loop-left
-invariant-loop-left l = Parting l.d l.ms l.es l.faces l.cells l.zones l.initial.out l.at (parts_bytes l.d l.ms l.es l.faces l.cells (length l.zones / 6) l.zones) l.out l.c l.k l.left
-
-abbrev pub decreases-loop-left : goal.decreases-loop-left
-decreases-loop-left l = l.left
+abbrev pub invariant-loop-row : goal.invariant-loop-row
+invariant-loop-row l =
+    record {
+      laying : Left l.initial.out l.at (parts_bytes l.d (held l.tables) (records_in l.zones)) l.out l.c (parts_bytes l.d (held l.tables) (map zone_in (drop l.row-index l.rows)));
+      puttable : Each (Puttable (held l.tables)) (map zone_in (drop l.row-index l.rows));
+    }

@@ -1,9 +1,0 @@
--- `audit::counts::is_cell` meets its contract: the two halves of its test. Assumes nothing.
-use borrow.Author.Tests.{le-leb, lt-leb}
-use Rattle.audit.proofs.counts.is_cell.Goals as goal
-
-pub returns-then-number-ge1 : goal.returns-then-number-ge1
-returns-then-number-ge1 c = rw (le-leb _ _ c.if-number-ge1.true)
-
-pub returns-else-number-ge1 : goal.returns-else-number-ge1
-returns-else-number-ge1 c = rw (lt-leb _ _ c.if-number-ge1.false)

@@ -1,6 +1,0 @@
--- The numbers kept are within the words.
-use Rattle.std.proofs.Common.{◌≤◌, length}
-use Rattle.auditcases.proofs.input.words_of.Given as goal
-
-abbrev pub invariant-loop : goal.invariant-loop
-invariant-loop l = l.count ≤ length l.words

@@ -1,5 +1,0 @@
-use lib.ListN.{get_or-eq_default}
-use Rattle.kept.proofs.word_at.Goals as goal
-
-pub returns-else-i-w : goal.returns-else-i-w
-returns-else-i-w c = rw (get_or-eq_default c.args.w.now 0 c.if-i-w.false)

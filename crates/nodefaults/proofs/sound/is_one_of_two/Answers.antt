@@ -1,9 +1,0 @@
--- `nodefaults::sound::is_one_of_two` meets its contract: the two halves of its test. Assumes nothing.
-use borrow.Author.Tests.{eq-eqb, ne_eqb}
-use Rattle.nodefaults.proofs.sound.is_one_of_two.Goals as goal
-
-pub returns-then-a-x : goal.returns-then-a-x
-returns-then-a-x c = rw (eq-eqb _ _ c.if-a-x.true)
-
-pub returns-else-a-x : goal.returns-else-a-x
-returns-else-a-x c = rw (ne_eqb _ _ c.if-a-x.false)
