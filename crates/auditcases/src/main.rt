@@ -96,8 +96,9 @@ fn main(rt: HostRuntime) -> io::Result<()> {
     let mut out = BufWriter::new(rt.alloc(), io::writer(&rt))?;
     let mut text = Vec::new(rt.alloc());
     rt.reader().take(MOST).read_to_end(&mut text)?;
-    let words = numbers_of(rt.alloc(), &text)?;
-    run(&mut out, &words[..words.len().min(WORDS)])?;
+    let mut words: [u32; WORDS] = [0; WORDS];
+    let count = numbers_of(&text, &mut words);
+    run(&mut out, &words[..count])?;
     largest(&mut out)?;
     out.flush()
 }

@@ -1,12 +1,13 @@
 // The numbers of a case's text, for the programs that run cases.
 #![tactic(auto)]
 
-ghost use Rattle.std.specs.Prelude.{◌≡◌, IfOk};
+ghost use Rattle.std.specs.Prelude.{◌≡◌, length, min};
+ghost use Rattle.std.proofs.lemmas.List.Edits.{sets};
 ghost use Rattle.tokens.specs.Listed.{tokens_of};
 ghost use Rattle.casewords.specs.Numbers.{numbers_in, Next};
 
 use facts::Taken;
-use std::alloc::{AllocError, Global};
+use stores::store;
 use tokens::{Cursor, Token};
 
 // Whether the first token at or behind a place is a number, and the place behind it; nothing where no token is left.
@@ -26,24 +27,27 @@ fn next_number(s: &[u8], at: usize) -> Option<Taken<Option<u32>>>
     }
 }
 
-// The words of a text that are hexadecimal numbers, in order. What is no such word is stepped over.
-pub fn numbers_of(alloc: Global, s: &[u8]) -> Result<Vec<u32>, AllocError>
-    ensures { IfOk result (λ numbers. numbers.items ≡ numbers_in (tokens_of s.now)) }
+// The words of a text that are hexadecimal numbers, in order, as many as there is room for. What is no such word is stepped over. Answers how many stand in the slice.
+pub fn numbers_of(s: &[u8], numbers: &mut [u32]) -> usize
+    ensures numbers { numbers.new ≡ sets numbers.old 0 (numbers_in (tokens_of s.now)) }
+    ensures count { result ≡ min (length (numbers_in (tokens_of s.now))) (length numbers.old) }
 {
-    let mut numbers = Vec::new(alloc);
+    let mut count: usize = 0;
     let mut at = 0;
     while let Some(token) = next_number(s, at) {
         if let Some(number) = token.value {
-            numbers.push(number)?;
+            store(numbers, count, number);
+            count += 1;
         }
         at = token.next;
     }
-    Ok(numbers)
+    count.min(numbers.len())
 }
 
 #[test]
 fn numbers_between_other_tokens(rt: HostRuntime) {
-    let numbers = numbers_of(rt.alloc(), b"(1f \"2\" x 3)").expect(&rt, "memory for two numbers");
-    let found = numbers.as_slice() == [31, 3].as_slice();
+    let mut numbers: [u32; 3] = [7; 3];
+    let count = numbers_of(b"(1f \"2\" x 3)", &mut numbers);
+    let found = count == 2 && numbers[0] == 31 && numbers[1] == 3 && numbers[2] == 7;
     assert!(rt; found);
 }

@@ -4,10 +4,11 @@
 ghost use Rattle.std.specs.Prelude.{◌≡◌};
 ghost use Rattle.layout.specs.Read.{end_of};
 ghost use Rattle.layout.specs.Replies.{refuses};
+ghost use Rattle.kept.specs.Kept.{listed};
 ghost use Rattle.sofar.specs.States.{state_for};
 ghost use Rattle.endings.specs.Endings.{verdict, last_of};
 
-use kept::{Kept, is_tiled};
+use kept::{Lists, is_tiled};
 use layout::{Accepted, Refusal, Refused};
 use sofar::State;
 use tokens::Token;
@@ -24,28 +25,27 @@ fn refused(why: Refusal, section: u32, offset: usize) -> Result<Accepted, Refuse
 
 // "At the end: 13, 10, 14."
 #[tactic(auto, unfolding(layout::specs::Read::end_of))]
-fn end_of(x: State, kept: &[Kept], k: u32, size: usize) -> Result<Accepted, Refused>
-    ensures { result ≡ verdict (end_of size (state_for kept.now x) k) }
+fn end_of(x: State, lists: Lists<'_>, k: u32, size: usize) -> Result<Accepted, Refused>
+    ensures { result ≡ verdict (end_of size (state_for (listed lists.entry) x) k) }
 {
-    let (Some(nodes), Some(faces)) = (x.nodes, x.faces) else {
+    if !(x.nodes.declared && x.faces.declared) {
         return refused(Refusal::Missing, k, size);
-    };
+    }
     if x.dim == 0 {
         return refused(Refusal::Dimension, k, size);
     }
-    let cells = x.cells.unwrap_or(0);
     let z = x.zones as usize;
-    let tiled = is_tiled(kept, z, 10, nodes)
-        && is_tiled(kept, z, 12, cells)
-        && is_tiled(kept, z, 13, faces);
+    let tiled = is_tiled(lists, z, 10, x.nodes.total)
+        && is_tiled(lists, z, 12, x.cells.total)
+        && is_tiled(lists, z, 13, x.faces.total);
     if !tiled {
         return refused(Refusal::Untiled, k, size);
     }
     Ok(Accepted {
         dim: x.dim,
-        nodes,
-        faces,
-        cells,
+        nodes: x.nodes.total,
+        faces: x.faces.total,
+        cells: x.cells.total,
         zones: x.zones,
     })
 }
@@ -55,14 +55,14 @@ pub fn last_of(
     kind: Token,
     start: usize,
     x: State,
-    kept: &[Kept],
+    lists: Lists<'_>,
     k: u32,
     size: usize,
 ) -> Result<Accepted, Refused>
-    ensures { result ≡ last_of kind start (state_for kept.now x) k size }
+    ensures { result ≡ last_of kind start (state_for (listed lists.entry) x) k size }
 {
     match kind {
-        Token::End => end_of(x, kept, k, size),
+        Token::End => end_of(x, lists, k, size),
         _ => refused(Refusal::Grammar, k, start),
     }
 }

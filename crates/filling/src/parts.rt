@@ -4,6 +4,7 @@ ghost use Rattle.mesh.specs.Rows.{node_words, places};
 ghost use Rattle.sizes.specs.Sizes.{zones};
 ghost use Rattle.layout.specs.Items.{node, cell, face};
 ghost use Rattle.layout.specs.Rows.{mantissa_table, exponent_table, face_table, cell_table};
+ghost use Rattle.sofar.specs.Sofar.{kind_for_id};
 ghost use Rattle.filling.specs.Passing.{face_form, Bodied, Passes, PassesAny, PassesAt, laid_by, tabled, Kept, Laid};
 
 use super::tops::top_at;
@@ -119,6 +120,13 @@ fn faces_into(s: &[u8], at: usize, z: usize, faces: &mut [u32], list: &mut [u32]
     put_faces(s, body, zone, n, faces, k);
 }
 
+// What a section is by its id, where it is one that leaves rows.
+fn kind_by(id: u32) -> Option<Kind>
+    ensures { result ≡ kind_for_id id }
+{
+    kind_of(id)
+}
+
 // From behind its `(`.
 pub(crate) fn section_into(s: &[u8], at: usize, d: u32, z: usize, lent: &mut Lent<'_>)
     requires { (d ≤ node_words) × (z ≤ zones) }
@@ -127,7 +135,7 @@ pub(crate) fn section_into(s: &[u8], at: usize, d: u32, z: usize, lent: &mut Len
 {
     let id = value_at(s, at, Sort::SectionId);
     let behind = id.next;
-    let named = kind_of(id.value);
+    let named = kind_by(id.value);
     let Some(kind) = named else {
         return;
     };

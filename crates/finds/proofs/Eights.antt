@@ -9,7 +9,10 @@ use lib.Count.{count_trailing_zeros}
 use Rattle.facts.proofs.Branch.{split}
 use Rattle.facts.proofs.First.{first_inside, first_is, first_behind}
 use Rattle.digits.specs.declared.group.Base.{Base}
-use Rattle.finds.specs.Eights.{off, Shows}
+use Rattle.std.specs.Prelude.{Result, Ok, Err}
+use Rattle.tokens.specs.declared.Run.{Run}
+use Rattle.tokens.specs.Tokens.{run_at}
+use Rattle.finds.specs.Eights.{off, Shows, Searched}
 use Rattle.finds.proofs.Passing.{Passes}
 use Rattle.digits.specs.Lanes.{lanes, Laned}
 use Rattle.digits.proofs.Laning.{padded, padded_eight, padded_under, padded_same}
@@ -136,3 +139,11 @@ module _ {goes : ℕ → Bool} {to : List ℕ → ℕ → ℕ} {answers : ℕ �
       let y = there z in
       let q = step_is goes answers show x block l size here e y.0 in
       (ap (λ (k : ℕ). i + k) q ∙ y.1, omega (arith, q, y.0, length-take 8 (drop i s), length-drop i s))
+
+-- ---- what a search answers
+module _ (k : Run) (s : List ℕ) (at : ℕ) {r : Result ℕ ℕ} (h : Searched k s at r) where
+  pub searched_ok : (found : ℕ) → r ≡ Ok found → found ≡ run_at k s at
+  searched_ok found e = subst (Searched k s at) e h
+
+  pub searched_err : (last : ℕ) → r ≡ Err last → (run_at k s last ≡ run_at k s at) × (length s < last + 8)
+  searched_err last e = subst (Searched k s at) e h

@@ -4,6 +4,7 @@ ghost use Rattle.tokens.specs.Tokens.{mark_of};
 ghost use Rattle.finds.specs.Marks.{marks_of};
 
 use super::runs::run_from;
+use tokens::Cursor;
 
 // The highest bit of each byte that is a mark. The parentheses differ in the lowest bit only.
 fn marks(x: u64) -> u64
@@ -17,7 +18,7 @@ fn marks(x: u64) -> u64
     high ^ digits::HIGHS
 }
 
-// The first mark at or behind a place; without one the file's length, or the place past it. The byte there is looked at first: marks often stand side by side.
+// The first mark at or behind a place; without one the file's length, or the place past it. The byte there is looked at first: marks often stand side by side. The last bytes of a file are looked at one by one.
 pub fn mark_from(s: &[u8], at: usize) -> usize
     ensures { result ≡ mark_of s.now at }
 {
@@ -28,5 +29,8 @@ pub fn mark_from(s: &[u8], at: usize) -> usize
     if b == b'"' || b == b'(' || b == b')' {
         return at;
     }
-    run_from(s, at, marks)
+    match run_from(s, at, marks) {
+        Ok(found) => found,
+        Err(last) => (Cursor { at: last }).mark(s),
+    }
 }

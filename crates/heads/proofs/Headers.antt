@@ -16,7 +16,9 @@ use Rattle.layout.specs.Reading.{Got, Reader, next, hex_word}
 use Rattle.layout.specs.Sections as S
 use Rattle.layout.specs.Sections.{starts_right, fifth_of}
 use Rattle.spots.specs.declared.Bad.{Bad}
+use Rattle.spots.specs.declared.Head.{Head}
 use Rattle.spots.specs.declared.Read.{Read}
+use Rattle.spots.specs.Heads.{word_of, place_of, head_for}
 use Rattle.spots.specs.Pasts.{taken_view, TakenAt}
 use Rattle.steps.specs.Views.{NumAt}
 use Rattle.steps.proofs.Chain.{taken_no, taken_to, taken_ahead, later}
@@ -68,6 +70,14 @@ module _ (s : List ℕ) (at : ℕ) (optional b : Bool) (e : b ≡ (optional && s
     pub fifth_given : (t : Taken Read) → r ≡ Ok t → FifthAt s at (word_at (Some t.value) t.next) (fifth_of (length s) optional (tokens_from s at))
     unfolding fifth_of
     fifth_given t z = record { says = rw (sym e ∙ q, fifth_of) (taken_to s at _ h t z); from = omega (arith, taken_ahead s at t h z) }
+
+-- a header with the fifth word and its place as they were read
+abbrev whole : Read → Read → Read → Read → Option ℕ → ℕ → ℕ → Head
+whole z f l t w p e = record { zone = z; first = f; last = l; ztype = t; fifth = w; place = p; end = e }
+
+pub head_with : (z f l t : Read) (e : ℕ) {w : Option ℕ} {p : ℕ} (v : Option Read) → w ≡ word_of v → p ≡ place_of v
+    → head_for (whole z f l t w p e) ≡ head_for (whole z f l t (word_of v) (place_of v) e)
+head_with z f l t e {w} {p} v r q = ap (λ y. head_for (whole z f l t y p e)) r ∙ ap (λ y. head_for (whole z f l t (word_of v) y e)) q
 
 -- ---- any reader behind a fifth word
 module _ {U C : Type 0} (w : U → C) (s : List ℕ) (at : ℕ) {g : Got S.Word} {r : Result (Taken (Option Read)) Bad} (f : S.Word → Reader C) (h : FifthAt s at r g) where

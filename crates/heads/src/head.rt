@@ -4,7 +4,7 @@ ghost use Rattle.tokens.specs.Listed.{tokens_from};
 ghost use Rattle.layout.specs.Sections.{starts_right, fifth_of, head_of};
 ghost use Rattle.layout.specs.State.{is_node};
 ghost use Rattle.heads.specs.Heads.{HeadAt, FifthAt};
-ghost use Rattle.spots.specs.Heads.{kind_for};
+ghost use Rattle.spots.specs.Heads.{kind_for, word_of, place_of};
 
 use facts::Taken;
 use numbers::Sort;
@@ -49,6 +49,20 @@ fn fifth_at(s: &[u8], at: usize, kind: Kind, zone: u32) -> Result<Taken<Option<R
     })
 }
 
+// The fifth word, if one is given.
+fn word_of(fifth: Option<Read>) -> Option<u32>
+    ensures { result ≡ word_of fifth }
+{
+    fifth.map(|word| word.value)
+}
+
+// Where it stands; 0 where none is given.
+fn place_of(fifth: Option<Read>) -> usize
+    ensures { result ≡ place_of fifth }
+{
+    fifth.map_or(0, |word| word.at)
+}
+
 pub fn head_at(s: &[u8], at: usize, kind: Kind) -> Result<Taken<Head>, Bad>
     ensures { HeadAt s.now at result (head_of (length s.now) (kind_for kind) (tokens_from s.now at)) }
 {
@@ -64,7 +78,8 @@ pub fn head_at(s: &[u8], at: usize, kind: Kind) -> Result<Taken<Head>, Bad>
         first: first.value,
         last: last.value,
         ztype: ztype.value,
-        fifth: fifth.value,
+        fifth: word_of(fifth.value),
+        place: place_of(fifth.value),
         end: close.value,
     };
     Ok(Taken {

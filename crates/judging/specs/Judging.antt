@@ -1,5 +1,5 @@
 -- The code's judgement of a section's words, in the order of the table of refusals. Assumes nothing.
-use Rattle.std.specs.Prelude.{ℕ, Bool, true, false, is_some, is_none, unwrap_or, Option, Result, Ok, Err}
+use Rattle.std.specs.Prelude.{ℕ, Bool, true, false, not, Option, Result, Ok, Err}
 use Rattle.layout.specs.declared.Refusal.{Refusal}
 use Rattle.layout.specs.State.{dim_after, dim_listed, type_listed, fifth_listed, fits_in, decl_range, part_range, zone_fits}
 use Rattle.spots.specs.declared.Bad.{Bad}
@@ -7,7 +7,7 @@ use Rattle.spots.specs.declared.Kind.{Kind}
 use Rattle.spots.specs.declared.Head.{Head}
 use Rattle.sofar.specs.declared.State.{State}
 use Rattle.sofar.specs.Sofar.{seen_of}
-use Rattle.spots.specs.Heads.{word_of, place_of, kind_for, fifth_for}
+use Rattle.spots.specs.Heads.{kind_for, fifth_for}
 use Rattle.ranges.specs.Ranges.{limit_for}
 use Rattle.dims.specs.Dims.{dim_word_for, agrees, known}
 
@@ -17,22 +17,23 @@ test b w o r = elim b [ true ↦ r | false ↦ Err (record { why = w; offset = o
 
 abbrev pub decl_judged : Kind → State → Option ℕ → Head → Result Unit Bad
 decl_judged k x limit h =
-    test (is_none (seen_of x k)) Refusal.Undeclared h.zone.at
+    test (not (seen_of x k).declared) Refusal.Undeclared h.zone.at
     (test (decl_range h.first.value h.last.value) Refusal.Range h.first.at
     (test (fits_in (limit_for limit) h.last.value) Refusal.TableRoom h.first.at
-    (test (dim_listed (fifth_for (dim_word_for k (word_of h.fifth)))) Refusal.Type (place_of h.fifth)
-    (test (agrees x.dim (fifth_for (dim_word_for k (word_of h.fifth)))) Refusal.Dimension (place_of h.fifth) (Ok tt)))))
+    (test (dim_listed (fifth_for (dim_word_for k h.fifth))) Refusal.Type h.place
+    (test (agrees x.dim (fifth_for (dim_word_for k h.fifth))) Refusal.Dimension h.place (Ok tt)))))
 
-abbrev pub words_judged : Kind → State → Option ℕ → Head → Result Unit Bad
-words_judged k x limit h =
+-- zones is the number of zone records so far
+abbrev pub words_judged : Kind → State → ℕ → Option ℕ → Head → Result Unit Bad
+words_judged k x zones limit h =
     test (type_listed (kind_for k) h.ztype.value) Refusal.Type h.ztype.at
-    (test (fifth_listed (kind_for k) (fifth_for (word_of h.fifth))) Refusal.Type (place_of h.fifth)
-    (test (agrees x.dim (fifth_for (dim_word_for k (word_of h.fifth)))) Refusal.Dimension (place_of h.fifth)
-    (test (known k (dim_after x.dim (fifth_for (dim_word_for k (word_of h.fifth))))) Refusal.Dimension h.end
-    (test (zone_fits (limit_for limit) x.zones) Refusal.ZoneRoom h.zone.at (Ok tt)))))
+    (test (fifth_listed (kind_for k) (fifth_for h.fifth)) Refusal.Type h.place
+    (test (agrees x.dim (fifth_for (dim_word_for k h.fifth))) Refusal.Dimension h.place
+    (test (known k (dim_after x.dim (fifth_for (dim_word_for k h.fifth)))) Refusal.Dimension h.end
+    (test (zone_fits (limit_for limit) zones) Refusal.ZoneRoom h.zone.at (Ok tt)))))
 
-abbrev pub part_judged : Kind → State → Option ℕ → Head → Bool → Result Unit Bad
-part_judged k x limit h apart =
-    test (is_some (seen_of x k)) Refusal.Undeclared h.zone.at
-    (test (part_range (unwrap_or (seen_of x k) 0) h.zone.value h.first.value h.last.value) Refusal.Range h.first.at
-    (test apart Refusal.Overlap h.first.at (words_judged k x limit h)))
+abbrev pub part_judged : Kind → State → ℕ → Option ℕ → Head → Bool → Result Unit Bad
+part_judged k x zones limit h apart =
+    test (seen_of x k).declared Refusal.Undeclared h.zone.at
+    (test (part_range (seen_of x k).total h.zone.value h.first.value h.last.value) Refusal.Range h.first.at
+    (test apart Refusal.Overlap h.first.at (words_judged k x zones limit h)))

@@ -9,10 +9,18 @@ use ranges::{decl_range, fits_in, part_range, zone_fits};
 use sofar::State;
 use spots::{Bad, Head, Kind};
 
+// What the tests behind one that holds say; or its refusal.
+pub fn unless(ok: bool, why: Refusal, offset: usize, rest: Result<(), Bad>) -> Result<(), Bad>
+    ensures { result ≡ test ok why offset rest }
+{
+    if ok { rest } else { Err(Bad { why, offset }) }
+}
+
+// The same with nothing behind it, to be handed on with `?`.
 pub fn ensure(ok: bool, why: Refusal, offset: usize) -> Result<(), Bad>
     ensures { result ≡ test ok why offset (Ok tt) }
 {
-    if ok { Ok(()) } else { Err(Bad { why, offset }) }
+    unless(ok, why, offset, Ok(()))
 }
 
 // Undeclared, Range, TableRoom, Type, Dimension. The limit is on rows.
@@ -21,7 +29,7 @@ pub fn decl_judged(kind: Kind, x: State, limit: Option<usize>, h: Head) -> Resul
 {
     let last = h.last.value;
     let word = dim_word(kind, h.word());
-    ensure(x.seen(kind).is_none(), Refusal::Undeclared, h.zone.at)?;
+    ensure(!x.seen(kind).declared, Refusal::Undeclared, h.zone.at)?;
     ensure(decl_range(h.first.value, last), Refusal::Range, h.first.at)?;
     ensure(
         fits_in(limit, last as usize),
@@ -33,8 +41,14 @@ pub fn decl_judged(kind: Kind, x: State, limit: Option<usize>, h: Head) -> Resul
 }
 
 // Type, Type, Dimension, Dimension, ZoneRoom.
-fn words_judged(kind: Kind, x: State, limit: Option<usize>, h: Head) -> Result<(), Bad>
-    ensures { result ≡ words_judged kind x limit h }
+fn words_judged(
+    kind: Kind,
+    x: State,
+    zones: usize,
+    limit: Option<usize>,
+    h: Head,
+) -> Result<(), Bad>
+    ensures { result ≡ words_judged kind x zones limit h }
 {
     let word = dim_word(kind, h.word());
     ensure(type_listed(kind, h.ztype.value), Refusal::Type, h.ztype.at)?;
@@ -45,34 +59,28 @@ fn words_judged(kind: Kind, x: State, limit: Option<usize>, h: Head) -> Result<(
         Refusal::Dimension,
         h.end,
     )?;
-    ensure(
-        zone_fits(limit, x.zones as usize),
-        Refusal::ZoneRoom,
-        h.zone.at,
-    )
+    ensure(zone_fits(limit, zones), Refusal::ZoneRoom, h.zone.at)
 }
 
-// Undeclared, Range, Overlap, and then the words. The limit is on zone records.
+// Undeclared, Range, Overlap, and then the words. The limit is on zone records; how many there are is told apart from the state, since it may be any number.
 pub fn part_judged(
     kind: Kind,
     x: State,
+    zones: usize,
     limit: Option<usize>,
     h: Head,
     apart: bool,
 ) -> Result<(), Bad>
-    ensures { result ≡ part_judged kind x limit h apart }
+    ensures { result ≡ part_judged kind x zones limit h apart }
 {
     let first = h.first;
-    let undeclared = Bad {
-        why: Refusal::Undeclared,
-        offset: h.zone.at,
-    };
-    let total = x.seen(kind).ok_or(undeclared)?;
+    let seen = x.seen(kind);
+    ensure(seen.declared, Refusal::Undeclared, h.zone.at)?;
     ensure(
-        part_range(total, h.zone.value, first.value, h.last.value),
+        part_range(seen.total, h.zone.value, first.value, h.last.value),
         Refusal::Range,
         first.at,
     )?;
     ensure(apart, Refusal::Overlap, first.at)?;
-    words_judged(kind, x, limit, h)
+    words_judged(kind, x, zones, limit, h)
 }

@@ -3,4 +3,4 @@
 
 mod judge;
 
-pub use judge::{decl_judged, ensure, part_judged};
+pub use judge::{decl_judged, ensure, part_judged, unless};

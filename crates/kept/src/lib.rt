@@ -1,10 +1,17 @@
-// The regular sections met so far, in order.
+// The regular sections met so far, in order: id, first and last of each, in three slices side by side.
 #![tactic(auto)]
 
-ghost use Rattle.std.specs.Prelude.{◌≡◌, take};
-ghost use Rattle.std.specs.List.{find};
+ghost use Rattle.std.specs.Prelude.{◌≡◌, get_or};
 ghost use Rattle.layout.specs.State.{every, clear, tiled};
-ghost use Rattle.kept.specs.Kept.{holds, kept_of};
+ghost use Rattle.kept.specs.Kept.{listed, apart, holds, kept_at, kept_of, holder_of};
+
+// Three slices, since a call may have them of any length. A word behind the end of one is 0.
+#[derive(Clone, Copy)]
+pub struct Lists<'a> {
+    pub ids: &'a [u32],
+    pub firsts: &'a [u32],
+    pub lasts: &'a [u32],
+}
 
 // The id of a section, and the first and the last of its indices.
 #[derive(Clone, Copy, Debug, PartialEq, Eq)]
@@ -14,32 +21,68 @@ pub struct Kept {
     pub last: u32,
 }
 
-// Whether first to last meets none of the first z sections that is of this kind. The number stands beside the slice: with a part of it callers would have to show, at each call, that z is within.
-pub fn is_clear(kept: &[Kept], z: usize, id: u32, first: u32, last: u32) -> bool
-    ensures { result ≡ every (clear first last) (kept_of kept.now id z) }
+fn word_at(w: &[u32], i: usize) -> u32
+    ensures { result ≡ get_or w.now i 0 }
 {
-    kept.iter()
-        .take(z)
-        .all(|k| k.id != id || k.last < first || last < k.first)
+    if i < w.len() { w[i] } else { 0 }
 }
 
-// The first of the first z sections that is of this kind and has i in it.
-fn holder(kept: &[Kept], z: usize, id: u32, i: u32) -> Option<Kept>
-    ensures { result ≡ find (holds id i) (take z kept.now) }
+fn kept_at(lists: Lists<'_>, i: usize) -> Kept
+    ensures { result ≡ kept_at (listed lists.entry) i }
 {
-    kept.iter()
-        .take(z)
-        .copied()
-        .find(|k| k.id == id && k.first <= i && i <= k.last)
+    Kept {
+        id: word_at(lists.ids, i),
+        first: word_at(lists.firsts, i),
+        last: word_at(lists.lasts, i),
+    }
+}
+
+// Of another kind, or without an index from first to last.
+fn is_apart(met: Kept, id: u32, first: u32, last: u32) -> bool
+    ensures { result ≡ apart id first last met }
+{
+    met.id != id || met.last < first || last < met.first
+}
+
+// Of this kind, with i in it.
+fn holds(met: Kept, id: u32, i: u32) -> bool
+    ensures { result ≡ holds id i met }
+{
+    met.id == id && met.first <= i && i <= met.last
+}
+
+// Whether first to last meets none of the first z sections that is of this kind.
+pub fn is_clear(lists: Lists<'_>, z: usize, id: u32, first: u32, last: u32) -> bool
+    ensures { result ≡ every (clear first last) (kept_of (listed lists.entry) id z) }
+{
+    for i in (0..z).rev() {
+        if !is_apart(kept_at(lists, i), id, first, last) {
+            return false;
+        }
+    }
+    true
+}
+
+// The last of the first z sections that is of this kind and has i in it.
+fn holder(lists: Lists<'_>, z: usize, id: u32, i: u32) -> Option<Kept>
+    ensures { result ≡ holder_of (listed lists.entry) id i z }
+{
+    for left in (0..z).rev() {
+        let met = kept_at(lists, left);
+        if holds(met, id, i) {
+            return Some(met);
+        }
+    }
+    None
 }
 
 // Whether the first z sections that are of this kind have every index from 1 to total: from one section's last index on to the next, which no counted loop is.
-pub fn is_tiled(kept: &[Kept], z: usize, id: u32, total: u32) -> bool
-    ensures { result ≡ tiled (kept_of kept.now id z) total }
+pub fn is_tiled(lists: Lists<'_>, z: usize, id: u32, total: u32) -> bool
+    ensures { result ≡ tiled (kept_of (listed lists.entry) id z) total }
 {
     let mut done = 0;
     while done < total {
-        let Some(met) = holder(kept, z, id, done + 1) else {
+        let Some(met) = holder(lists, z, id, done + 1) else {
             return false;
         };
         done = met.last;

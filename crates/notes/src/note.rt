@@ -1,10 +1,9 @@
 // What is kept of a section that was met: the state, and of a regular one its range and its place.
 ghost use Rattle.std.specs.Prelude.{◌≡◌};
-ghost use Rattle.notes.specs.Noting.{more, with_total, dim_with, note_state, note_kept, note_place};
+ghost use Rattle.notes.specs.Noting.{more, with_total, dim_with, note_state, note_id, note_first, note_last, note_place};
 
 use dims::{dim_after, dim_word};
-use kept::Kept;
-use sofar::{State, id_of};
+use sofar::{Seen, State, id_of};
 use spots::{Head, Kind};
 use stores::store;
 
@@ -30,21 +29,24 @@ fn more_of(z: u32) -> u32
 fn with_total(x: State, kind: Kind, total: u32, dim: u32) -> State
     ensures { result ≡ with_total x kind total dim }
 {
-    let total = Some(total);
+    let seen = Seen {
+        declared: true,
+        total,
+    };
     match kind {
         Kind::Node => State {
             dim,
-            nodes: total,
+            nodes: seen,
             ..x
         },
         Kind::Cell => State {
             dim,
-            cells: total,
+            cells: seen,
             ..x
         },
         Kind::Face => State {
             dim,
-            faces: total,
+            faces: seen,
             ..x
         },
     }
@@ -71,20 +73,26 @@ pub fn noted(x: State, met: Met) -> State
     }
 }
 
-// A regular section goes behind the z that are kept, and its place behind theirs. The places are a slice of their own, since they are handed on alone.
-pub fn keep(kept: &mut [Kept], places: &mut [u32], z: u32, met: Met, place: u32)
-    ensures kept { kept.new ≡ note_kept met z kept.old }
+// A regular section goes behind the z that are kept, in each of the four slices that has room for it.
+pub fn keep(
+    ids: &mut [u32],
+    firsts: &mut [u32],
+    lasts: &mut [u32],
+    places: &mut [u32],
+    z: u32,
+    met: Met,
+    place: u32,
+)
+    ensures ids { ids.new ≡ note_id met z ids.old }
+    ensures firsts { firsts.new ≡ note_first met z firsts.old }
+    ensures lasts { lasts.new ≡ note_last met z lasts.old }
     ensures places { places.new ≡ note_place met z place places.old }
 {
     if let Met::Part { kind, head } = met {
         let z = z as usize;
-        if z < kept.len() {
-            kept[z] = Kept {
-                id: id_of(kind),
-                first: head.first.value,
-                last: head.last.value,
-            };
-        }
+        store(ids, z, id_of(kind));
+        store(firsts, z, head.first.value);
+        store(lasts, z, head.last.value);
         store(places, z, place);
     }
 }

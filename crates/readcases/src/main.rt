@@ -19,12 +19,14 @@ use cases::{line_end, text_end};
 use casewords::numbers_of;
 use rooms::lent;
 use shown::{print_reply, print_rows, print_zones};
-use std::alloc::Global;
 use std::io;
 use std::io::{BufWriter, Read, Write};
 
 // Input is read up to here.
 const MOST: u64 = 65536;
+
+// How many numbers a case's line has.
+const NUMBERS: usize = 5;
 
 // What a case may be lent: 24 rows of each kind.
 const NODE_WORDS: usize = 72;
@@ -55,8 +57,9 @@ fn judge(
 }
 
 // Lends what the case's line says. `%%` is no number and the name is no word.
-fn lend(alloc: Global, out: &mut impl Write, line: &[u8], text: &[u8]) -> io::Result<()> {
-    let numbers = numbers_of(alloc, line)?;
+fn lend(out: &mut impl Write, line: &[u8], text: &[u8]) -> io::Result<()> {
+    let mut numbers: [u32; NUMBERS] = [0; NUMBERS];
+    numbers_of(line, &mut numbers);
     let m = lent(&numbers, 0, NODE_WORDS);
     let e = lent(&numbers, 1, NODE_WORDS);
     let f = lent(&numbers, 2, FACE_WORDS);
@@ -78,7 +81,7 @@ fn lend(alloc: Global, out: &mut impl Write, line: &[u8], text: &[u8]) -> io::Re
 }
 
 // The case whose line begins at `at`, if a line of %% stands behind it. Answers where the next case begins.
-fn one_case(alloc: Global, out: &mut impl Write, s: &[u8], at: usize) -> io::Result<usize>
+fn one_case(out: &mut impl Write, s: &[u8], at: usize) -> io::Result<usize>
     requires { at < length s.now }
     ensures { IfOk result (λ next. at < next) }
 {
@@ -93,15 +96,15 @@ fn one_case(alloc: Global, out: &mut impl Write, s: &[u8], at: usize) -> io::Res
         return Ok(size);
     }
     out.write_all(&s[at..start])?;
-    lend(alloc, out, &s[at..line], &s[start..end])?;
+    lend(out, &s[at..line], &s[start..end])?;
     Ok(end + 1)
 }
 
 // No `for`: how long a case is, is known when it is read.
-fn run(alloc: Global, out: &mut impl Write, s: &[u8]) -> io::Result<()> {
+fn run(out: &mut impl Write, s: &[u8]) -> io::Result<()> {
     let mut at: usize = 0;
     while at < s.len() {
-        at = one_case(alloc, out, s, at)?;
+        at = one_case(out, s, at)?;
     }
     Ok(())
 }
@@ -110,6 +113,6 @@ fn main(rt: HostRuntime) -> io::Result<()> {
     let mut out = BufWriter::new(rt.alloc(), io::writer(&rt))?;
     let mut text = Vec::new(rt.alloc());
     rt.reader().take(MOST).read_to_end(&mut text)?;
-    run(rt.alloc(), &mut out, &text)?;
+    run(&mut out, &text)?;
     out.flush()
 }

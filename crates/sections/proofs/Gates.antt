@@ -17,11 +17,11 @@ use Rattle.spots.specs.declared.Kind.{Kind}
 use Rattle.spots.specs.declared.Head.{Head}
 use Rattle.sofar.specs.declared.State.{State}
 use Rattle.sofar.specs.declared.Room.{Room}
-use Rattle.std.specs.Prelude.{Result, Ok, Err, is_some, is_none, unwrap_or}
+use Rattle.std.specs.Prelude.{Result, Ok}
 use Rattle.spots.specs.declared.Bad.{Bad}
-use Rattle.kept.specs.declared.Kept.{Kept}
+use Rattle.kept.specs.Kept.{Listed}
 use Rattle.notes.specs.declared.note.Met.{Met}
-use Rattle.spots.specs.Heads.{word_of, place_of, kind_for, fifth_for, head_for}
+use Rattle.spots.specs.Heads.{kind_for, fifth_for, head_for}
 use Rattle.bodies.specs.Bodies.{forget}
 use Rattle.ranges.specs.Ranges.{limit_for}
 use Rattle.dims.specs.Dims.{dim_word_for, agrees, known}
@@ -65,9 +65,9 @@ module _ (size : ℕ) (ts : List Tok) where
   body_by k h (bad w o) = refl
 
 -- ---- headers
-module _ (kept : List Kept) (size : ℕ) (x : State) (room : Room) (h : Head) (ts : List Tok) where
+module _ (kept : Listed) (size : ℕ) (x : State) (room : Room) (h : Head) (ts : List Tok) where
   abbrev dim_with : Kind → Bool
-  dim_with k = dim_agrees (state_for kept x) (fifth_for (dim_word_for k (word_of h.fifth)))
+  dim_with k = dim_agrees (state_for kept x) (fifth_for (dim_word_for k h.fifth))
 
   agreeing : (v : Items.Perhaps) → agrees x.dim v ≡ dim_agrees (state_for kept x) v
   agreeing Items.absent = refl
@@ -76,32 +76,32 @@ module _ (kept : List Kept) (size : ℕ) (x : State) (room : Room) (h : Head) (t
   -- `agree` is the test of the dimension
   abbrev decl_tests : Kind → Bool → List Test
   decl_tests k agree =
-      record { ok = is_none (seen_of x k); why = Refusal.Undeclared; offset = h.zone.at }
+      record { ok = not (seen_of x k).declared; why = Refusal.Undeclared; offset = h.zone.at }
       ∷ record { ok = decl_range h.first.value h.last.value; why = Refusal.Range; offset = h.first.at }
       ∷ record { ok = fits_in (limit_for (room_of room k)) h.last.value; why = Refusal.TableRoom; offset = h.first.at }
-      ∷ record { ok = dim_listed (fifth_for (dim_word_for k (word_of h.fifth))); why = Refusal.Type; offset = place_of h.fifth }
-      ∷ record { ok = agree; why = Refusal.Dimension; offset = place_of h.fifth }
+      ∷ record { ok = dim_listed (fifth_for (dim_word_for k h.fifth)); why = Refusal.Type; offset = h.place }
+      ∷ record { ok = agree; why = Refusal.Dimension; offset = h.place }
       ∷ []
 
   abbrev part_tests : Kind → Bool → List Test
   part_tests k agree =
-      record { ok = is_some (seen_of x k); why = Refusal.Undeclared; offset = h.zone.at }
-      ∷ record { ok = part_range (unwrap_or (seen_of x k) 0) h.zone.value h.first.value h.last.value; why = Refusal.Range; offset = h.first.at }
+      record { ok = (seen_of x k).declared; why = Refusal.Undeclared; offset = h.zone.at }
+      ∷ record { ok = part_range (seen_of x k).total h.zone.value h.first.value h.last.value; why = Refusal.Range; offset = h.first.at }
       ∷ record { ok = clear_for kept k x.zones h; why = Refusal.Overlap; offset = h.first.at }
       ∷ record { ok = type_listed (kind_for k) h.ztype.value; why = Refusal.Type; offset = h.ztype.at }
-      ∷ record { ok = fifth_listed (kind_for k) (fifth_for (word_of h.fifth)); why = Refusal.Type; offset = place_of h.fifth }
-      ∷ record { ok = agree; why = Refusal.Dimension; offset = place_of h.fifth }
-      ∷ record { ok = known k (dim_after x.dim (fifth_for (dim_word_for k (word_of h.fifth)))); why = Refusal.Dimension; offset = h.end }
+      ∷ record { ok = fifth_listed (kind_for k) (fifth_for h.fifth); why = Refusal.Type; offset = h.place }
+      ∷ record { ok = agree; why = Refusal.Dimension; offset = h.place }
+      ∷ record { ok = known k (dim_after x.dim (fifth_for (dim_word_for k h.fifth))); why = Refusal.Dimension; offset = h.end }
       ∷ record { ok = zone_fits (limit_for room.zones) x.zones; why = Refusal.ZoneRoom; offset = h.zone.at }
       ∷ []
 
   -- judged with the code's test of the dimension, then with the layout's
   turned : (l : Bool → List Test) (k : Kind) (m : Reader Outline)
-      → gate (judge_of (l (agrees x.dim (fifth_for (dim_word_for k (word_of h.fifth)))))) m ts ≡ gate (judge_of (l (dim_with k))) m ts
-  turned l k m = ap (λ b. gate (judge_of (l b)) m ts) (agreeing (fifth_for (dim_word_for k (word_of h.fifth))))
+      → gate (judge_of (l (agrees x.dim (fifth_for (dim_word_for k h.fifth))))) m ts ≡ gate (judge_of (l (dim_with k))) m ts
+  turned l k m = ap (λ b. gate (judge_of (l b)) m ts) (agreeing (fifth_for (dim_word_for k h.fifth)))
 
   decl_gates : (k : Kind)
-      → gate (judge_of (decl_tests k (agrees x.dim (fifth_for (dim_word_for k (word_of h.fifth)))))) (ended size (Met.Decl k h)) ts
+      → gate (judge_of (decl_tests k (agrees x.dim (fifth_for (dim_word_for k h.fifth))))) (ended size (Met.Decl k h)) ts
       ≡ outlined (got_of (decl_tests k (dim_with k)) (next (right_of size ts) (λ o. pure (Items.decl (kind_for k) (header_of (head_for h))))))
   decl_gates k =
       turned (decl_tests k) k (ended size (Met.Decl k h))
@@ -116,13 +116,13 @@ module _ (kept : List Kept) (size : ℕ) (x : State) (room : Room) (h : Head) (t
 
   -- ---- regular sections
   abbrev body_at : Kind → ℕ → Got Items.Body
-  body_at k n = body_of size (kind_for k) (dim_after x.dim (fifth_for (dim_word_for k (word_of h.fifth)))) n (fifth_for (word_of h.fifth)) ts
+  body_at k n = body_of size (kind_for k) (dim_after x.dim (fifth_for (dim_word_for k h.fifth))) n (fifth_for h.fifth) ts
 
   abbrev part_got : Kind → ℕ → Got Items.Item
   part_got k n = next (body_at k n) (λ b us. next (right_of size us) (λ o. pure (Items.part (kind_for k) (header_of (head_for h)) b)))
 
   part_gates : (k : Kind)
-      → gate (judge_of (part_tests k (agrees x.dim (fifth_for (dim_word_for k (word_of h.fifth)))))) (body_ended size k x.dim h) ts
+      → gate (judge_of (part_tests k (agrees x.dim (fifth_for (dim_word_for k h.fifth))))) (body_ended size k x.dim h) ts
       ≡ outlined (got_of (part_tests k (dim_with k)) (part_got k (count_for h.first.value h.last.value)))
   part_gates k =
       turned (part_tests k) k (body_ended size k x.dim h)
@@ -151,19 +151,19 @@ module _ (kept : List Kept) (size : ℕ) (x : State) (room : Room) (h : Head) (t
   later_tests k =
       record { ok = clear_for kept k x.zones h; why = Refusal.Overlap; offset = h.first.at }
       ∷ record { ok = type_listed (kind_for k) h.ztype.value; why = Refusal.Type; offset = h.ztype.at }
-      ∷ record { ok = fifth_listed (kind_for k) (fifth_for (word_of h.fifth)); why = Refusal.Type; offset = place_of h.fifth }
-      ∷ record { ok = dim_with k; why = Refusal.Dimension; offset = place_of h.fifth }
-      ∷ record { ok = known k (dim_after x.dim (fifth_for (dim_word_for k (word_of h.fifth)))); why = Refusal.Dimension; offset = h.end }
+      ∷ record { ok = fifth_listed (kind_for k) (fifth_for h.fifth); why = Refusal.Type; offset = h.place }
+      ∷ record { ok = dim_with k; why = Refusal.Dimension; offset = h.place }
+      ∷ record { ok = known k (dim_after x.dim (fifth_for (dim_word_for k h.fifth))); why = Refusal.Dimension; offset = h.end }
       ∷ record { ok = zone_fits (limit_for room.zones) x.zones; why = Refusal.ZoneRoom; offset = h.zone.at }
       ∷ []
 
   part_count : (k : Kind) → got_of (part_tests k (dim_with k)) (part_got k (count_for h.first.value h.last.value)) ≡ got_of (part_tests k (dim_with k)) (part_got k (suc h.last.value - h.first.value))
   part_count k =
-      declared_by (is_some (seen_of x k)) Refusal.Undeclared h.zone.at
-      (count_by_lem (part_range (unwrap_or (seen_of x k) 0) h.zone.value h.first.value h.last.value) Refusal.Range h.first.at (λ n. got_of (later_tests k) (part_got k n)) (counted (unwrap_or (seen_of x k) 0)))
+      declared_by (seen_of x k).declared Refusal.Undeclared h.zone.at
+      (count_by_lem (part_range (seen_of x k).total h.zone.value h.first.value h.last.value) Refusal.Range h.first.at (λ n. got_of (later_tests k) (part_got k n)) (counted (seen_of x k).total))
 
   pub part_is : (k : Kind)
-      → gate (part_judged k x room.zones h (clear_for kept k x.zones h)) (body_ended size k x.dim h) ts
+      → gate (part_judged k x x.zones room.zones h (clear_for kept k x.zones h)) (body_ended size k x.dim h) ts
       ≡ outlined (part_of size (room_all room) (kind_for k) (state_for kept x) (head_for h) ts)
   unfolding part_of
   part_is Kind.Node = part_gates Kind.Node ∙ ap outlined (part_count Kind.Node)
@@ -183,5 +183,5 @@ module _ (kept : List Kept) (size : ℕ) (x : State) (room : Room) (h : Head) (t
   head_decl k e = decl_is k ∙ ap outlined (chosen (eqb h.zone.value 0) true (eq-eqb _ _ e) (decl_of size (room_all room) (kind_for k) (state_for kept x) (head_for h)) (part_of size (room_all room) (kind_for k) (state_for kept x) (head_for h)))
 
   pub head_part : (k : Kind) → (h.zone.value ≡ 0 → ⊥)
-      → gate (part_judged k x room.zones h (clear_for kept k x.zones h)) (body_ended size k x.dim h) ts ≡ behind_head k
+      → gate (part_judged k x x.zones room.zones h (clear_for kept k x.zones h)) (body_ended size k x.dim h) ts ≡ behind_head k
   head_part k n = part_is k ∙ ap outlined (chosen (eqb h.zone.value 0) false (ne_eqb _ _ n) (decl_of size (room_all room) (kind_for k) (state_for kept x) (head_for h)) (part_of size (room_all room) (kind_for k) (state_for kept x) (head_for h)))

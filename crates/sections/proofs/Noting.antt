@@ -3,10 +3,9 @@ use Prim.Native.Nat.{ℕ, suc, ◌+◌, ◌<◌}
 use native.Mathlib.Omega.{arith}
 use native.Mathlib.Numerals.{add-one}
 use mathlib.Core.Path.{◌≡◌, refl, sym, ◌∙◌, ap}
-use mathlib.Core.List.{List}
 use mathlib.Core.Bool.{Bool, true, false}
 use borrow.Author.Tests.{lt-ltb}
-use lib.ListN.{length, set}
+use lib.ListN.{length}
 use Rattle.sizes.specs.Sizes.{zones}
 use Rattle.layout.specs.Items as Items
 use Rattle.layout.specs.State as St
@@ -18,9 +17,8 @@ use Rattle.notes.specs.declared.note.Met.{Met}
 use Rattle.notes.specs.Noting.{more, note_state, kept_as, note_kept}
 use Rattle.sections.specs.Sections.{Outline, dim, decl, part, other, outline_of, met_for}
 use Rattle.sofar.specs.States.{state_for}
-use Rattle.kept.specs.declared.Kept.{Kept}
-use Rattle.kept.specs.Kept.{on_top, kept_of}
-use Rattle.kept.proofs.Stored.{kept_top}
+use Rattle.kept.specs.Kept.{Listed, on_top, kept_of}
+use Rattle.kept.proofs.Stored.{stored, kept_top}
 
 -- ---- the state after an outline
 abbrev after_outline : St.State → Outline → St.State
@@ -41,13 +39,13 @@ is_part (decl k h) = false
 is_part (part k h) = true
 is_part other = false
 
-module _ (kept : List Kept) (x : State) (a : length kept ≡ zones) where
+module _ (kept : Listed) (x : State) (a : length kept.ids ≡ zones) (b : length kept.firsts ≡ zones) (c : length kept.lasts ≡ zones) where
   module _ (h : Head) (l : x.zones < zones) where
-    top_of : (k : Kind) (id : ℕ) → kept_of (set kept x.zones (kept_as k h)) id (suc x.zones) ≡ on_top id (kept_as k h) (kept_of kept id x.zones)
-    top_of k id = kept_top kept x.zones (kept_as k h) id (omega (arith, a))
+    top_of : (k : Kind) (id : ℕ) → kept_of (stored kept x.zones (kept_as k h)) id (suc x.zones) ≡ on_top id (kept_as k h) (kept_of kept id x.zones)
+    top_of k id = kept_top kept x.zones (kept_as k h) (omega (arith, a)) (omega (arith, b)) (omega (arith, c)) id
 
     part_noted : (k : Kind)
-        → state_for (set kept x.zones (kept_as k h)) (note_state x (Met.Part k h))
+        → state_for (stored kept x.zones (kept_as k h)) (note_state x (Met.Part k h))
         ≡ after_outline (state_for kept x) (met_for (Met.Part k h))
     part_noted Kind.Node = rw (more, lt-ltb x.zones zones l, top_of Kind.Node 10, top_of Kind.Node 12, top_of Kind.Node 13, add-one)
     part_noted Kind.Cell = rw (more, lt-ltb x.zones zones l, top_of Kind.Cell 10, top_of Kind.Cell 12, top_of Kind.Cell 13, add-one)

@@ -1,6 +1,6 @@
 -- A section's answer, part by part. Assumes nothing.
 use Rattle.std.specs.Prelude.{Result, Ok, Err, Option}
-use Prim.Native.Nat.{ℕ, ◌≤◌, ◌<◌}
+use Prim.Native.Nat.{ℕ, ◌≤◌}
 use native.Mathlib.Omega.{arith}
 use mathlib.Core.Path.{◌≡◌, refl, sym, ◌∙◌, ap}
 use mathlib.Core.List.{List, [], ◌∷◌}
@@ -10,30 +10,27 @@ use lib.ListN.{length}
 use Rattle.tokens.specs.Listed.{tokens_from}
 use Rattle.layout.specs.declared.Refusal.{Refusal}
 use Rattle.layout.specs.Items as Items
-use Rattle.layout.specs.Reading as R
 use Rattle.layout.specs.Reading.{Got, got, Reader, next, pure, check, right_of, skip}
 use Rattle.layout.specs.State.{every, clear, dim_after, dim_agrees, dim_listed}
 use Rattle.layout.specs.State as St
 use Rattle.layout.specs.Keeps as Keeps
-use Rattle.layout.specs.Sections as S
 use Rattle.layout.specs.Sections.{body_of, other_of}
 use Rattle.facts.specs.declared.Taken.{Taken}
 use Rattle.spots.specs.declared.Bad.{Bad}
 use Rattle.spots.specs.declared.Kind.{Kind}
 use Rattle.spots.specs.declared.Head.{Head}
-use Rattle.kept.specs.declared.Kept.{Kept}
 use Rattle.sofar.specs.declared.State.{State}
 use Rattle.sofar.specs.declared.Room.{Room}
 use Rattle.notes.specs.declared.note.Met.{Met}
 use Rattle.steps.specs.Views.{CloseAt}
-use Rattle.spots.specs.Pasts.{past_view, PastAt, taken, taken_view, TakenAhead, TakenAt}
-use Rattle.spots.specs.Heads.{word_of, kind_for, fifth_for, head_for}
+use Rattle.spots.specs.Pasts.{past_view, PastAt, taken, TakenAt}
+use Rattle.spots.specs.Heads.{kind_for, fifth_for}
 use Rattle.bodies.specs.Bodies.{forget, LooseAt}
-use Rattle.kept.specs.Kept.{kept_of}
+use Rattle.kept.specs.Kept.{Listed, kept_of}
 use Rattle.dims.specs.Dims.{dim_word_for}
 use Rattle.judging.specs.Judging.{decl_judged, part_judged}
-use Rattle.sofar.specs.Sofar.{seen_of, room_of, id_for, count_for}
-use Rattle.sections.specs.Sections.{Outline, outlined, met_for, sect_view, SectAt, clear_for, gate, ended, two_judged, two_end}
+use Rattle.sofar.specs.Sofar.{room_of, id_for, count_for}
+use Rattle.sections.specs.Sections.{Outline, outlined, met_for, SectAt, clear_for, gate, ended, two_judged, two_end}
 use Rattle.steps.proofs.Chain.{past_no, past_to, past_ahead, taken_no, taken_to, taken_ahead, later, then_no, then_last}
 use Rattle.bodies.proofs.Loose.{loose_is}
 use Rattle.sections.proofs.Gates.{Test, got_of, gates}
@@ -77,15 +74,15 @@ module _ (x : State) (room : Room) (k : Kind) (h : Head) where
   pub decl_as : {limit : Option ℕ} {j : Result Unit Bad} → limit ≡ room_of room k → j ≡ decl_judged k x limit h → j ≡ decl_judged k x (room_of room k) h
   decl_as z q = q ∙ ap (λ y. decl_judged k x y h) z
 
-  pub part_as : (kept : List Kept) {id : ℕ} {apart : Bool} {j : Result Unit Bad} → id ≡ id_for k
+  pub part_as : (kept : Listed) {id : ℕ} {apart : Bool} {j : Result Unit Bad} → id ≡ id_for k
       → apart ≡ every (clear h.first.value h.last.value) (kept_of kept id x.zones)
-      → j ≡ part_judged k x room.zones h apart
-      → j ≡ part_judged k x room.zones h (clear_for kept k x.zones h)
-  part_as kept i z q = q ∙ ap (part_judged k x room.zones h) (z ∙ ap (λ y. every (clear h.first.value h.last.value) (kept_of kept y x.zones)) i)
+      → j ≡ part_judged k x x.zones room.zones h apart
+      → j ≡ part_judged k x x.zones room.zones h (clear_for kept k x.zones h)
+  part_as kept i z q = q ∙ ap (part_judged k x x.zones room.zones h) (z ∙ ap (λ y. every (clear h.first.value h.last.value) (kept_of kept y x.zones)) i)
 
-pub body_as : (s : List ℕ) (at : ℕ) (k : Kind) (dim : ℕ) (h : Head) {f w : Option ℕ} {d n : ℕ} {p : Result ℕ Bad} → f ≡ word_of h.fifth → w ≡ dim_word_for k f → d ≡ dim_after dim (fifth_for w) → n ≡ count_for h.first.value h.last.value
+pub body_as : (s : List ℕ) (at : ℕ) (k : Kind) (dim : ℕ) (h : Head) {f w : Option ℕ} {d n : ℕ} {p : Result ℕ Bad} → f ≡ h.fifth → w ≡ dim_word_for k f → d ≡ dim_after dim (fifth_for w) → n ≡ count_for h.first.value h.last.value
     → LooseAt s at p (forget (body_of (length s) (kind_for k) d n (fifth_for f) (tokens_from s at)))
-    → LooseAt s at p (forget (body_of (length s) (kind_for k) (dim_after dim (fifth_for (dim_word_for k (word_of h.fifth)))) (count_for h.first.value h.last.value) (fifth_for (word_of h.fifth)) (tokens_from s at)))
+    → LooseAt s at p (forget (body_of (length s) (kind_for k) (dim_after dim (fifth_for (dim_word_for k h.fifth))) (count_for h.first.value h.last.value) (fifth_for h.fifth) (tokens_from s at)))
 body_as s at k dim h {f} {w} {d} {n} y e z q l =
     loose_is s at
     (ap (λ y. forget (body_of (length s) (kind_for k) y n (fifth_for f) (tokens_from s at))) (z ∙ ap (λ y. dim_after dim (fifth_for y)) e)

@@ -1,25 +1,22 @@
 -- Sections with their bodies left out, and the code's answers as theirs. Assumes nothing.
 use Rattle.std.specs.Prelude.{ℕ, List, Bool, eqb, Result, Ok, Err}
-use Rattle.tokens.specs.Listed.{tokens_from}
 use Rattle.layout.specs.declared.Refusal.{Refusal}
 use Rattle.layout.specs.Items as Items
 use Rattle.layout.specs.Keeps as Keeps
 use Rattle.layout.specs.State as St
 use Rattle.layout.specs.State.{every, clear, dim_after, dim_listed, dim_agrees}
-use Rattle.layout.specs.Reading.{Got, got, bad, Reader, next, ◌>>=◌, ◌>>◌, pure, check, choose, right_of}
+use Rattle.layout.specs.Reading.{Got, got, bad, Reader, next, ◌>>◌, pure, check, choose, right_of}
 use Rattle.layout.specs.Sections.{header_of, body_of, two_of, kind_of, other_of}
 use Rattle.spots.specs.declared.Kind.{Kind}
 use Rattle.spots.specs.declared.Head.{Head}
-use Rattle.sofar.specs.declared.State.{State}
 use Rattle.sofar.specs.declared.Room.{Room}
 use Rattle.spots.specs.declared.Bad.{Bad}
-use Rattle.kept.specs.declared.Kept.{Kept}
 use Rattle.notes.specs.declared.note.Met.{Met}
 use Rattle.facts.specs.declared.Taken.{Taken}
 use Rattle.spots.specs.Pasts.{taken_view, TakenAt}
-use Rattle.spots.specs.Heads.{word_of, kind_for, fifth_for, head_for}
+use Rattle.spots.specs.Heads.{kind_for, fifth_for, head_for}
 use Rattle.bodies.specs.Bodies.{forget}
-use Rattle.kept.specs.Kept.{kept_of}
+use Rattle.kept.specs.Kept.{Listed, kept_of}
 use Rattle.ranges.specs.Ranges.{limit_for}
 use Rattle.dims.specs.Dims.{dim_word_for, agrees}
 use Rattle.judging.specs.Judging.{test}
@@ -58,7 +55,7 @@ SectAt = TakenAt met_for
 abbrev pub room_all : Room → Keeps.Room
 room_all r = record { nodes = limit_for r.nodes; cells = limit_for r.cells; faces = limit_for r.faces; zones = limit_for r.zones }
 
-module _ (kept : List Kept) where
+module _ (kept : Listed) where
   abbrev pub clear_for : Kind → ℕ → Head → Bool
   clear_for k z h = every (clear h.first.value h.last.value) (kept_of kept (id_for k) z)
 
@@ -75,7 +72,7 @@ ended size m = do
 
 abbrev pub body_ended : ℕ → Kind → ℕ → Head → Reader Outline
 body_ended size k d h ts =
-    next (forget (body_of size (kind_for k) (dim_after d (fifth_for (dim_word_for k (word_of h.fifth)))) (count_for h.first.value h.last.value) (fifth_for (word_of h.fifth)) ts)) (λ u. ended size (Met.Part k h))
+    next (forget (body_of size (kind_for k) (dim_after d (fifth_for (dim_word_for k h.fifth))) (count_for h.first.value h.last.value) (fifth_for h.fifth) ts)) (λ u. ended size (Met.Part k h))
 
 abbrev pub two_judged : ℕ → ℕ → ℕ → Result Unit Bad
 two_judged d n o = test (dim_listed (Items.given n)) Refusal.Type o (test (agrees d (Items.given n)) Refusal.Dimension o (Ok tt))

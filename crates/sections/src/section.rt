@@ -8,6 +8,7 @@ ghost use Rattle.layout.specs.Sections.{two_of, decl_of, part_of, kind_of, other
 ghost use Rattle.spots.specs.Heads.{kind_for, head_for};
 ghost use Rattle.judging.specs.Judging.{decl_judged, part_judged};
 ghost use Rattle.sofar.specs.Sofar.{room_of};
+ghost use Rattle.kept.specs.Kept.{listed};
 ghost use Rattle.sofar.specs.States.{state_for};
 ghost use Rattle.sections.specs.Sections.{SectAt, two_judged, gate, ended, body_ended, outlined, room_all, clear_for, by_id};
 
@@ -17,7 +18,7 @@ use facts::Taken;
 use heads::head_at;
 use ids::id_at;
 use judging::{decl_judged, ensure, part_judged};
-use kept::{Kept, is_clear};
+use kept::{Lists, is_clear};
 use layout::Refusal;
 use notes::Met;
 use numbers::Sort;
@@ -70,14 +71,14 @@ fn part_at(
     x: State,
     room: Room,
     h: Head,
-    kept: &[Kept],
+    lists: Lists<'_>,
 ) -> Result<Taken<Met>, Bad>
-    ensures { SectAt s.now at result (gate (part_judged kind x room.zones h (clear_for kept.now kind x.zones h)) (body_ended (length s.now) kind x.dim h) (tokens_from s.now at)) }
+    ensures { SectAt s.now at result (gate (part_judged kind x x.zones room.zones h (clear_for (listed lists.entry) kind x.zones h)) (body_ended (length s.now) kind x.dim h) (tokens_from s.now at)) }
 {
     let id = id_of(kind);
     let zones = x.zones as usize;
-    let apart = is_clear(kept, zones, id, h.first.value, h.last.value);
-    part_judged(kind, x, room.zones, h, apart)?;
+    let apart = is_clear(lists, zones, id, h.first.value, h.last.value);
+    part_judged(kind, x, zones, room.zones, h, apart)?;
     rows_at(s, at, kind, x.dim, h)
 }
 
@@ -89,15 +90,15 @@ fn behind_head(
     x: State,
     room: Room,
     h: Head,
-    kept: &[Kept],
+    lists: Lists<'_>,
 ) -> Result<Taken<Met>, Bad>
-    ensures { SectAt s.now at result (outlined (choose (eqb h.zone.value 0) (decl_of (length s.now) (room_all room) (kind_for kind) (state_for kept.now x) (head_for h)) (part_of (length s.now) (room_all room) (kind_for kind) (state_for kept.now x) (head_for h)) (tokens_from s.now at))) }
+    ensures { SectAt s.now at result (outlined (choose (eqb h.zone.value 0) (decl_of (length s.now) (room_all room) (kind_for kind) (state_for (listed lists.entry) x) (head_for h)) (part_of (length s.now) (room_all room) (kind_for kind) (state_for (listed lists.entry) x) (head_for h)) (tokens_from s.now at))) }
 {
     let zone = h.zone.value;
     if zone == 0 {
         decl_at(s, at, kind, x, room, h)
     } else {
-        part_at(s, at, kind, x, room, h, kept)
+        part_at(s, at, kind, x, room, h, lists)
     }
 }
 
@@ -107,12 +108,12 @@ fn kind_at(
     kind: Kind,
     x: State,
     room: Room,
-    kept: &[Kept],
+    lists: Lists<'_>,
 ) -> Result<Taken<Met>, Bad>
-    ensures { SectAt s.now at result (outlined (kind_of (length s.now) (room_all room) (kind_for kind) (state_for kept.now x) (tokens_from s.now at))) }
+    ensures { SectAt s.now at result (outlined (kind_of (length s.now) (room_all room) (kind_for kind) (state_for (listed lists.entry) x) (tokens_from s.now at))) }
 {
     let head = head_at(s, at, kind)?;
-    behind_head(s, head.next, kind, x, room, head.value, kept)
+    behind_head(s, head.next, kind, x, room, head.value, lists)
 }
 
 // Type, Dimension.
@@ -153,15 +154,15 @@ fn by_id(
     id: u32,
     x: State,
     room: Room,
-    kept: &[Kept],
+    lists: Lists<'_>,
 ) -> Result<Taken<Met>, Bad>
-    ensures { SectAt s.now at result (outlined (by_id (length s.now) (room_all room) id (state_for kept.now x) (tokens_from s.now at))) }
+    ensures { SectAt s.now at result (outlined (by_id (length s.now) (room_all room) id (state_for (listed lists.entry) x) (tokens_from s.now at))) }
 {
     if id == 2 {
         return two_at(s, at, x.dim);
     }
     match kind_of(id) {
-        Some(kind) => kind_at(s, at, kind, x, room, kept),
+        Some(kind) => kind_at(s, at, kind, x, room, lists),
         None => other_at(s, at),
     }
 }
@@ -178,13 +179,13 @@ pub fn section_at(
     at: usize,
     x: State,
     room: Room,
-    kept: &[Kept],
+    lists: Lists<'_>,
 ) -> Result<Taken<Met>, Bad>
-    ensures { SectAt s.now at result (outlined (section_of (length s.now) (room_all room) (state_for kept.now x) (tokens_from s.now at))) }
+    ensures { SectAt s.now at result (outlined (section_of (length s.now) (room_all room) (state_for (listed lists.entry) x) (tokens_from s.now at))) }
 {
     let id = id_at(s, at)?;
     if is_text(id.value.value) {
-        return by_id(s, id.next, id.value.value, x, room, kept);
+        return by_id(s, id.next, id.value.value, x, room, lists);
     }
     Err(Bad {
         why: Refusal::Binary,

@@ -2,6 +2,7 @@
 use Prim.Native.Nat.{◌-◌}
 use Rattle.std.specs.Prelude.{Some, None}
 use mathlib.Core.Path.{◌≡◌, refl}
+use mathlib.Core.Bool.{true, false}
 use Rattle.spots.specs.declared.Kind.{Kind}
 use Rattle.sofar.specs.declared.State.{State}
 use Rattle.sofar.specs.declared.Room.{Room}
@@ -10,13 +11,19 @@ use Rattle.sofar.specs.Sofar.{seen_of, room_of, id_for, kind_for_id, count_for}
 -- behind "(2 2)(10 (0 1 4 0))(13 (0 1 3 0))"
 abbrev before : State
 before =
-    record { dim = 2; nodes = Some 4; cells = None; faces = Some 3; zones = 0 }
+    record {
+      dim = 2;
+      nodes = record { declared = true; total = 4 };
+      cells = record { declared = false; total = 0 };
+      faces = record { declared = true; total = 3 };
+      zones = 0;
+    }
 
 abbrev room : Room
 room = record { nodes = Some 4; cells = Some 1; faces = Some 3; zones = Some 2 }
 
 -- `seen`: cells declared by faces
-seen_of_lem : (seen_of before Kind.Cell ≡ None) × (before.faces ≡ Some 3)
+seen_of_lem : (seen_of before Kind.Cell ≡ record { declared = false; total = 0 }) × (before.faces ≡ record { declared = true; total = 3 })
 seen_of_lem = (refl, refl)
 
 -- `rows`: faces given the room of zones

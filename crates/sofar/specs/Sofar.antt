@@ -1,10 +1,11 @@
 -- What the sections so far leave behind, by kind, and the count of a range. Assumes nothing.
 use Rattle.std.specs.Prelude.{ℕ, suc, ◌-◌, true, false, ◌&&◌, leb, eqb, Option, Some, None}
 use Rattle.spots.specs.declared.Kind.{Kind}
+use Rattle.sofar.specs.declared.Seen.{Seen}
 use Rattle.sofar.specs.declared.State.{State}
 use Rattle.sofar.specs.declared.Room.{Room}
 
-abbrev pub seen_of : State → Kind → Option ℕ
+abbrev pub seen_of : State → Kind → Seen
 seen_of x Kind.Node = x.nodes
 seen_of x Kind.Cell = x.cells
 seen_of x Kind.Face = x.faces

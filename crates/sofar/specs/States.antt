@@ -1,14 +1,13 @@
--- The code's state and its list of sections as the layout's state. Assumes nothing.
-use Rattle.std.specs.Prelude.{ℕ, List, Option, is_some, unwrap_or}
+-- The code's state and its three lists of sections as the layout's state. Assumes nothing.
+use Rattle.std.specs.Prelude.{ℕ}
 use Rattle.layout.specs.State as St
-use Rattle.kept.specs.declared.Kept.{Kept}
-use Rattle.kept.specs.Kept.{kept_of}
+use Rattle.kept.specs.Kept.{Listed, kept_of}
+use Rattle.sofar.specs.declared.Seen.{Seen}
 use Rattle.sofar.specs.declared.State.{State}
 
-module _ (kept : List Kept) where
-  -- the total is 0 where none was declared
-  abbrev pub per_for : ℕ → Option ℕ → ℕ → St.Per
-  per_for z total id = record { declared = is_some total; total = unwrap_or total 0; spans = kept_of kept id z }
+module _ (kept : Listed) where
+  abbrev pub per_for : ℕ → Seen → ℕ → St.Per
+  per_for z p id = record { declared = p.declared; total = p.total; spans = kept_of kept id z }
 
   abbrev pub state_for : State → St.State
   state_for x =

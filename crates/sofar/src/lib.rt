@@ -6,19 +6,26 @@ ghost use Rattle.sofar.specs.Sofar.{seen_of, id_for, kind_for_id, room_of, count
 
 use spots::Kind;
 
-// What the sections so far leave behind, their ranges aside: of each kind its total, once it was declared. The dimension is 0 where none is known, as the definitions have it, and as a file may write it.
+// Of one kind: whether it was declared, and its total.
+#[derive(Clone, Copy, Debug, PartialEq, Eq)]
+pub struct Seen {
+    pub declared: bool,
+    pub total: u32,
+}
+
+// What the sections so far leave behind, their ranges aside. The dimension is 0 where none is known, as the definitions have it, and as a file may write it.
 #[derive(Clone, Copy, Debug, PartialEq, Eq)]
 pub struct State {
     pub dim: u32,
-    pub nodes: Option<u32>,
-    pub cells: Option<u32>,
-    pub faces: Option<u32>,
+    pub nodes: Seen,
+    pub cells: Seen,
+    pub faces: Seen,
     pub zones: u32,
 }
 
 impl State {
-    // The total of a kind, once it was declared.
-    pub fn seen(self, kind: Kind) -> Option<u32>
+    // What is known of a kind.
+    pub fn seen(self, kind: Kind) -> Seen
         ensures { result ≡ seen_of self kind }
     {
         match kind {

@@ -30,4 +30,4 @@ place_of (Some r) = r.at
 
 abbrev pub head_for : Head → S.Head
 head_for h =
-    record { zone = read_for h.zone; first = read_for h.first; last = read_for h.last; type = read_for h.ztype; fifth = fifth_for (word_of h.fifth); fifth_at = place_of h.fifth; end = h.end }
+    record { zone = read_for h.zone; first = read_for h.first; last = read_for h.last; type = read_for h.ztype; fifth = fifth_for h.fifth; fifth_at = h.place; end = h.end }

@@ -2,7 +2,6 @@
 #![tactic(auto)]
 
 ghost use Rattle.std.specs.Prelude.{◌≡◌};
-ghost use Rattle.spots.specs.Heads.{word_of, place_of};
 
 use layout::Refusal;
 
@@ -28,29 +27,32 @@ pub struct Read {
     pub at: usize,
 }
 
-// The words of a header with their places, and the place of the `)`.
+// The words of a header with their places, and the place of the `)`. The fifth word's place stands apart from the word: it is told where none is given, too.
 #[derive(Clone, Copy)]
 pub struct Head {
     pub zone: Read,
     pub first: Read,
     pub last: Read,
     pub ztype: Read,
-    pub fifth: Option<Read>,
+    pub fifth: Option<u32>,
+    pub place: usize,
     pub end: usize,
 }
 
 impl Head {
     // The fifth word, if one is given.
     pub fn word(self) -> Option<u32>
-        ensures { result ≡ word_of self.fifth }
+        ensures { result ≡ self.fifth }
     {
-        self.fifth.map(|fifth| fifth.value)
+        let Head { fifth, .. } = self;
+        fifth
     }
 
-    // Where the fifth word stands; 0 where none is given.
+    // Where the fifth word stands; readers of headers put 0 where none is given.
     pub fn place(self) -> usize
-        ensures { result ≡ place_of self.fifth }
+        ensures { result ≡ self.place }
     {
-        self.fifth.map_or(0, |fifth| fifth.at)
+        let Head { place, .. } = self;
+        place
     }
 }

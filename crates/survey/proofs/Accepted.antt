@@ -1,6 +1,6 @@
 -- A file is accepted exactly when it is laid out with some items and there is room; the totals are theirs. Assumes nothing.
 use Rattle.std.specs.Prelude.{Ok, Err}
-use Rattle.layout.specs.Replies.{Reply, accepts, refuses}
+use Rattle.layout.specs.Replies.{Reply, accepts}
 use Prim.Native.Nat.{ℕ}
 use native.Mathlib.Omega.{arith}
 use mathlib.Core.Path.{◌≡◌, refl, sym, ◌∙◌, ap}

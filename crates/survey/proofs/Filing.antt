@@ -1,12 +1,12 @@
 -- A file section by section: what the loop keeps. Assumes nothing.
 use Rattle.std.specs.Prelude.{Result, Ok, Err}
 use Rattle.layout.specs.Replies.{Reply, refuses}
-use Prim.Native.Nat.{ℕ, suc, ◌+◌, ◌-◌, ◌≤◌, ◌<◌}
+use Prim.Native.Nat.{ℕ, suc, ◌+◌, ◌≤◌, ◌<◌}
 use native.Mathlib.Omega.{arith}
 use native.Mathlib.Numerals.{add-one}
 use mathlib.Core.Path.{◌≡◌, refl, sym, ◌∙◌, ap, subst}
 use mathlib.Core.List.{List, [], ◌∷◌, ◌++◌}
-use mathlib.Core.Bool.{true, false, false≢true}
+use mathlib.Core.Bool.{true, false≢true}
 use types.Run.{OneOf, miss}
 use denote.Enum.Declared.{tag_of}
 use lib.ListN.{length, length-set}
@@ -39,13 +39,13 @@ use Rattle.spots.specs.declared.Bad.{Bad}
 use Rattle.sofar.specs.declared.State.{State}
 use Rattle.notes.specs.declared.note.Met.{Met}
 use Rattle.facts.specs.declared.Taken.{Taken}
-use Rattle.std.specs.Prelude.{None}
-use Rattle.kept.specs.declared.Kept.{Kept}
-use Rattle.kept.specs.Kept.{stacked}
-use Rattle.notes.specs.Noting.{note_state, kept_as, note_kept, note_place}
-use Rattle.sections.specs.Sections.{Outline, other, outline_of, outlined, met_for, sect_view, SectAt}
+use Rattle.kept.specs.Kept.{Listed, kept_of}
+use Rattle.sofar.specs.Sofar.{id_for}
+use Rattle.notes.specs.Noting.{note_state, note_id, note_first, note_last, note_kept, note_place}
+use Rattle.sections.specs.Sections.{Outline, outline_of, outlined, met_for, sect_view, SectAt}
 use Rattle.sofar.specs.States.{state_for}
 use Rattle.endings.specs.Endings.{verdict, last_of}
+use Rattle.survey.specs.Before.{nothing}
 use Rattle.survey.specs.Sites.{sited, sited_by, sites_from, token_sites}
 use Rattle.sections.proofs.Noting.{is_part, note_is}
 use Rattle.survey.proofs.Based.{left_next}
@@ -100,11 +100,32 @@ few_of room before (Items.decl k h) f e = absurd (false≢true e)
 few_of room before (Items.part k h b) f e = f.few
 few_of room before Items.other f e = absurd (false≢true e)
 
-kept_length : (m : Met) (z : ℕ) (l : List Kept) → length (note_kept m z l) ≡ length l
-kept_length (Met.Dim n) z l = refl
-kept_length (Met.Decl k h) z l = refl
-kept_length (Met.Part k h) z l = length-set l z (kept_as k h)
-kept_length Met.Other z l = refl
+id_length : (m : Met) (z : ℕ) (l : List ℕ) → length (note_id m z l) ≡ length l
+id_length (Met.Dim n) z l = refl
+id_length (Met.Decl k h) z l = refl
+id_length (Met.Part k h) z l = length-set l z (id_for k)
+id_length Met.Other z l = refl
+
+first_length : (m : Met) (z : ℕ) (l : List ℕ) → length (note_first m z l) ≡ length l
+first_length (Met.Dim n) z l = refl
+first_length (Met.Decl k h) z l = refl
+first_length (Met.Part k h) z l = length-set l z h.first.value
+first_length Met.Other z l = refl
+
+last_length : (m : Met) (z : ℕ) (l : List ℕ) → length (note_last m z l) ≡ length l
+last_length (Met.Dim n) z l = refl
+last_length (Met.Decl k h) z l = refl
+last_length (Met.Part k h) z l = length-set l z h.last.value
+last_length Met.Other z l = refl
+
+-- each of the three lists has room for as many sections as a file may have
+pub record Long (kept : Listed) : Type 0 where
+  pub ids : length kept.ids ≡ zones
+  pub firsts : length kept.firsts ≡ zones
+  pub lasts : length kept.lasts ≡ zones
+
+kept_long_more : (m : Met) (z : ℕ) (l : Listed) → Long l → Long (note_kept m z l)
+kept_long_more m z l g = record { ids = id_length m z l.ids ∙ g.ids; firsts = first_length m z l.firsts ∙ g.firsts; lasts = last_length m z l.lasts ∙ g.lasts }
 
 place_length : (m : Met) (z p : ℕ) (l : List ℕ) → length (note_place m z p l) ≡ length l
 place_length (Met.Dim n) z p l = refl
@@ -113,22 +134,22 @@ place_length (Met.Part k h) z p l = length-set l z p
 place_length Met.Other z p l = refl
 
 -- ---- what the loop keeps; `old` are the places at its start
-pub record Filing (s : List ℕ) (room : Keeps.Room) (old : List ℕ) (kept : List Kept) (places : List ℕ) (x : State) (c k : ℕ) : Type 0 where
+pub record Filing (s : List ℕ) (room : Keeps.Room) (old : List ℕ) (kept : Listed) (places : List ℕ) (x : State) (c k : ℕ) : Type 0 where
   pub before : List Item
   pub seen : Seen before (state_for kept x)
   pub within : c ≤ length s
   pub few : k ≤ c
-  pub kept_long : length kept ≡ zones
+  pub kept_long : Long kept
   pub places_long : length places ≡ length old
   pub same : verdict (file_of (length s) room (suc (length (tokens_from s c))) (state_for kept x) k (tokens_from s c)) ≡ verdict (tokens_answer (length s) room (tokens_from s 0))
   pub sites : sets places x.zones (sites_from (length s) room (suc (length (tokens_from s c))) (state_for kept x) (tokens_from s c)) ≡ sets old 0 (token_sites (length s) room (tokens_from s 0))
 
-pub nothing_kept : (kept : List Kept) → state_for kept (record { dim = 0; nodes = None; cells = None; faces = None; zones = 0 }) ≡ start
-unfolding stacked
+pub nothing_kept : (kept : Listed) → state_for kept nothing ≡ start
+unfolding kept_of
 nothing_kept kept = refl
 
-module _ (s : List ℕ) (room : Keeps.Room) (old : List ℕ) (kept : List Kept) where
-  pub filing_start : (x : State) → state_for kept x ≡ start → length kept ≡ zones → Filing s room old kept old x 0 0
+module _ (s : List ℕ) (room : Keeps.Room) (old : List ℕ) (kept : Listed) where
+  pub filing_start : (x : State) → state_for kept x ≡ start → Long kept → Filing s room old kept old x 0 0
   filing_start x e a =
       record {
         before = [];
@@ -226,7 +247,7 @@ module _ (s : List ℕ) (room : Keeps.Room) (old : List ℕ) (kept : List Kept) 
 
         next_state : state_for (note_kept m x.zones kept) (note_state x m) ≡ after here came.item
         next_state =
-            note_is kept x f.kept_long m came.item came.says few_now
+            note_is kept x f.kept_long.ids f.kept_long.firsts f.kept_long.lasts m came.item came.says few_now
 
         pub beyond : (c < n) × (n ≤ length s)
         beyond =
@@ -260,7 +281,7 @@ module _ (s : List ℕ) (room : Keeps.Room) (old : List ℕ) (kept : List Kept) 
             ∙ ap (λ g. sets places x.zones (sited_by g (suc t.start) (sites_on (length (tokens_from s c))))) (sym came.is)
             ∙ ap (sets places x.zones) (sym (left_sites (length (tokens_from s c)))) ∙ f.sites
 
-        pub filing_more : {a : List Kept} {l : List ℕ} {y : State} → a ≡ note_kept m x.zones kept
+        pub filing_more : {a : Listed} {l : List ℕ} {y : State} → a ≡ note_kept m x.zones kept
             → l ≡ note_place m x.zones t.next.at places → y ≡ note_state x m → Filing s room old a l y n (k + 1)
         filing_more {a} {l} {y} p u w =
             let st : state_for a y ≡ after here came.item = ap (λ i. state_for i y) p ∙ ap (state_for (note_kept m x.zones kept)) w ∙ next_state in
@@ -269,7 +290,7 @@ module _ (s : List ℕ) (room : Keeps.Room) (old : List ℕ) (kept : List Kept) 
               seen = subst (Seen (f.before ++ (came.item ∷ []))) (sym st) then;
               within = beyond.1;
               few = omega (arith, f.few, beyond.0);
-              kept_long = ap length p ∙ kept_length m x.zones kept ∙ f.kept_long;
+              kept_long = subst Long (sym p) (kept_long_more m x.zones kept f.kept_long);
               places_long = ap length u ∙ place_length m x.zones t.next.at places ∙ f.places_long;
               same = ap (λ i. verdict (file_of (length s) room (suc (length (tokens_from s n))) i (k + 1) (tokens_from s n))) st
                   ∙ ap (λ i. verdict (file_of (length s) room (suc (length (tokens_from s n))) (after here came.item) i (tokens_from s n))) (add-one k) ∙ same_on;

@@ -8,14 +8,15 @@ ghost use Rattle.layout.specs.Read.{tokens_answer, answer_of};
 ghost use Rattle.layout.specs.Replies.{shown};
 ghost use Rattle.sections.specs.Sections.{room_all};
 ghost use Rattle.endings.specs.Endings.{verdict};
+ghost use Rattle.survey.specs.Before.{nothing};
 ghost use Rattle.survey.specs.Sites.{token_sites, places_of};
 
 use endings::last_of;
-use kept::Kept;
+use kept::Lists;
 use layout::{Accepted, Refusal, Refused};
 use notes::{keep, noted};
 use sections::section_at;
-use sofar::{Room, State};
+use sofar::{Room, Seen, State};
 use tokens::{Cursor, Step, Token};
 
 // What reading a file answers, and the place behind the `(` of each regular section that was met, in order.
@@ -44,24 +45,37 @@ fn token_at(s: &[u8], at: usize) -> Step
     (Cursor { at }).token(s)
 }
 
-// The sections of a file that is not too long, from its first byte. The two slices hold what was met of the regular ones.
+// What is known before the first section.
+fn nothing() -> State
+    ensures { result ≡ nothing }
+{
+    let unseen = Seen {
+        declared: false,
+        total: 0,
+    };
+    State {
+        dim: 0,
+        nodes: unseen,
+        cells: unseen,
+        faces: unseen,
+        zones: 0,
+    }
+}
+
+// The sections of a file that is not too long, from its first byte. The four slices hold what was met of the regular ones.
 // No `for`: a section begins where the one before it ended.
 fn file_from(
     s: &[u8],
     room: Room,
-    kept: &mut [Kept],
+    ids: &mut [u32],
+    firsts: &mut [u32],
+    lasts: &mut [u32],
     places: &mut [u32],
 ) -> Result<Accepted, Refused>
-    requires { (length s.now ≤ file_bytes) × (length kept.old ≡ zones) }
+    requires { (length s.now ≤ file_bytes) × ((length ids.old ≡ zones) × ((length firsts.old ≡ zones) × (length lasts.old ≡ zones))) }
     ensures { (result ≡ verdict (tokens_answer (length s.now) (room_all room) (tokens_from s.now 0))) × (places.new ≡ sets places.old 0 (token_sites (length s.now) (room_all room) (tokens_from s.now 0))) }
 {
-    let mut x = State {
-        dim: 0,
-        nodes: None,
-        cells: None,
-        faces: None,
-        zones: 0,
-    };
+    let mut x = nothing();
     let mut c: usize = 0;
     let mut k: u32 = 0;
     loop {
@@ -69,11 +83,12 @@ fn file_from(
         let kind = t.token;
         let start = t.start;
         let next = t.next.at;
+        let lists = Lists { ids, firsts, lasts };
         let Token::Left = kind else {
-            return last_of(kind, start, x, kept, k, s.len());
+            return last_of(kind, start, x, lists, k, s.len());
         };
         k += 1;
-        match section_at(s, next, x, room, kept) {
+        match section_at(s, next, x, room, lists) {
             Err(bad) => {
                 return Err(Refused {
                     why: bad.why,
@@ -84,7 +99,7 @@ fn file_from(
             Ok(met) => {
                 let z = x.zones;
                 let place = next as u32;
-                keep(kept, places, z, met.value, place);
+                keep(ids, firsts, lasts, places, z, met.value, place);
                 x = noted(x, met.value);
                 c = met.next;
             }
@@ -106,12 +121,10 @@ pub fn locate(s: &[u8], room: Room) -> Located
         });
         return Located { reply, places };
     }
-    let mut kept = [Kept {
-        id: 0,
-        first: 0,
-        last: 0,
-    }; 64];
-    let reply = file_from(s, room, &mut kept, &mut places);
+    let mut ids: [u32; 64] = [0; 64];
+    let mut firsts: [u32; 64] = [0; 64];
+    let mut lasts: [u32; 64] = [0; 64];
+    let reply = file_from(s, room, &mut ids, &mut firsts, &mut lasts, &mut places);
     Located { reply, places }
 }
 

@@ -7,7 +7,7 @@ use mathlib.Core.List.{List, [], ◌∷◌, map}
 use mathlib.Core.Bool.{Bool, true, false, ◌&&◌}
 use borrow.Author.Tests.{ltb-true}
 use lib.Dec.{leb, ltb}
-use lib.ListN.{length, drop, get_or, set, length-set}
+use lib.ListN.{length, drop, get_or, length-set}
 use Rattle.std.specs.Simd.{first_chunks}
 use Rattle.facts.proofs.Decides.{and_split}
 use Rattle.sizes.specs.Sizes.{zones}
@@ -19,8 +19,8 @@ use Rattle.spots.specs.declared.Kind as Code
 use Rattle.spots.specs.Heads.{kind_for}
 use Rattle.sofar.specs.Sofar.{id_for}
 use Rattle.kept.specs.declared.Kept.{Kept}
-use Rattle.kept.specs.Kept.{on_top, stacked, kept_of}
-use Rattle.kept.proofs.Stored.{kept_top}
+use Rattle.kept.specs.Kept.{Listed, on_top, kept_of}
+use Rattle.kept.proofs.Stored.{stored, kept_top}
 use Rattle.texts.specs.Tabled.{by_kind, fifth_of}
 use Rattle.texts.proofs.ByKind.{chosen}
 use Rattle.texts.specs.Judged.{total_of, spans_of, element_by, record_by, record_fits, all_tiled, records_by}
@@ -59,24 +59,30 @@ id_is Code.Kind.Face = refl
 abbrev kept_as : Zone → Kept
 kept_as z = record { id = z.section; first = z.first; last = z.last }
 
+-- each of the three lists has room for as many records as a mesh may have
+pub record Long (kept : Listed) : Type 0 where
+  pub ids : length kept.ids ≡ zones
+  pub firsts : length kept.firsts ≡ zones
+  pub lasts : length kept.lasts ≡ zones
+
 -- the records before, the latest first, are what the lists have; rs are the rows of words
-pub record Judging (t : Totals) (words : List ℕ) (rs : List (List ℕ)) (kept : List Kept) (n i : ℕ) : Type 0 where
+pub record Judging (t : Totals) (words : List ℕ) (rs : List (List ℕ)) (kept : Listed) (n i : ℕ) : Type 0 where
   pub before : List Zone
   pub many : length before ≡ i
   pub whole : n ≡ length words / 6
   pub rows : n ≡ length rs
   pub few : i ≤ n
   pub spans : (id : ℕ) → kept_of kept id i ≡ spans_of id before
-  pub kept_size : length kept ≡ zones
+  pub kept_size : Long kept
   pub same : records_by (records_of t words) before (map zone_in (drop i rs)) ≡ records_by (records_of t words) [] (records_in words)
 
 module _ (t : Totals) (words : List ℕ) (rs : List (List ℕ)) where
   abbrev m : Mesh
   m = records_of t words
 
-  pub judging_start : (kept : List Kept) → length kept ≡ zones → (n : ℕ) → n ≡ length rs → rs ≡ first_chunks 6 (length words / 6) words → length rs ≡ length words / 6
+  pub judging_start : (kept : Listed) → Long kept → (n : ℕ) → n ≡ length rs → rs ≡ first_chunks 6 (length words / 6) words → length rs ≡ length words / 6
       → Judging t words rs kept n 0
-  unfolding stacked spans_of
+  unfolding kept_of spans_of
   judging_start kept a n e f l =
       record {
         before = [];
@@ -98,7 +104,7 @@ module _ (t : Totals) (words : List ℕ) (rs : List (List ℕ)) where
   total_is cell = refl
   total_is face = refl
 
-  module _ (kept : List Kept) (n i : ℕ) (g : Judging t words rs kept n i) where
+  module _ (kept : Listed) (n i : ℕ) (g : Judging t words rs kept n i) where
     judged_is : (z : Zone) → record_in kept t n i z ≡ record_fits m g.before z
     unfolding record_in record_fits
     judged_is z =
@@ -124,12 +130,12 @@ module _ (t : Totals) (words : List ℕ) (rs : List (List ℕ)) where
     pub judging_few : (z : Zone) → {b : Bool} → b ≡ record_in kept t n i z → b ≡ true → i < zones
     judging_few z p q = omega (arith, fits_few m g.before z (sym (p ∙ judged_is z) ∙ q), g.many)
 
-    spans_more : (id : ℕ) (z : Zone) → i < zones → kept_of (set kept i (kept_as z)) id (suc i) ≡ spans_of id (z ∷ g.before)
+    spans_more : (id : ℕ) (z : Zone) → i < zones → kept_of (stored kept i (kept_as z)) id (suc i) ≡ spans_of id (z ∷ g.before)
     unfolding spans_of
-    spans_more id z l = kept_top kept i (kept_as z) id (omega (arith, g.kept_size)) ∙ ap (on_top id (kept_as z)) (g.spans id)
+    spans_more id z l = kept_top kept i (kept_as z) (omega (arith, g.kept_size.ids)) (omega (arith, g.kept_size.firsts)) (omega (arith, g.kept_size.lasts)) id ∙ ap (on_top id (kept_as z)) (g.spans id)
 
     pub judging_more : (z : Zone) (r : List ℕ) → z ≡ zone_in (get_or rs i r) → i < length rs → {b : Bool} → b ≡ record_in kept t n i z → b ≡ true
-        → Judging t words rs (set kept i (kept_as z)) n (i + 1)
+        → Judging t words rs (stored kept i (kept_as z)) n (i + 1)
     judging_more z r e h p q =
         let f : record_fits m g.before z ≡ true = sym (p ∙ judged_is z) ∙ q in
         record {
@@ -138,8 +144,13 @@ module _ (t : Totals) (words : List ℕ) (rs : List (List ℕ)) where
           whole = g.whole;
           rows = g.rows;
           few = omega (arith, g.rows);
-          spans = λ id. ap (kept_of (set kept i (kept_as z)) id) (add-one i) ∙ spans_more id z (judging_few z p q);
-          kept_size = length-set kept i (kept_as z) ∙ g.kept_size;
+          spans = λ id. ap (kept_of (stored kept i (kept_as z)) id) (add-one i) ∙ spans_more id z (judging_few z p q);
+          kept_size =
+              record {
+                ids = length-set kept.ids i z.section ∙ g.kept_size.ids;
+                firsts = length-set kept.firsts i z.first ∙ g.kept_size.firsts;
+                lasts = length-set kept.lasts i z.last ∙ g.kept_size.lasts;
+              };
           same = sym (ap (λ y. y && records_by m (z ∷ g.before) (map zone_in (drop (i + 1) rs))) f) ∙ sym (next z r e h) ∙ g.same;
         }
 

@@ -4,12 +4,13 @@ ghost use Rattle.spots.specs.Heads.{kind_for};
 ghost use Rattle.texts.specs.Write.{records_in};
 ghost use Rattle.texts.specs.Judged.{element_by, records_by};
 ghost use Rattle.texts.specs.Tabled.{fifth_of};
+ghost use Rattle.kept.specs.Kept.{listed};
 ghost use Rattle.writer.specs.inner.Records.{records_of, kind_in, record_in, tiled_in};
 
 use super::flat::ZONE_WORDS;
 use super::section::zone_of;
 use super::tables::Totals;
-use kept::{Kept, is_clear, is_tiled};
+use kept::{Lists, is_clear, is_tiled};
 use listing::{fifth_listed, type_listed};
 use mesh::Zone;
 use ranges::{part_range, zone_fits};
@@ -36,40 +37,40 @@ fn element_fits(kind: Kind, element: u32) -> bool
 
 // Record i of n, of a known kind. The records before it are the first i that are kept.
 #[tactic(auto, using(crate::proofs::Judging::id_is), unfolding(texts::specs::Judged::record_by))]
-fn kind_fits(kind: Kind, d: u32, total: u32, z: Zone, kept: &[Kept], i: usize, n: usize) -> bool
-    ensures { result ≡ kind_in kept.now (kind_for kind) d total n i z }
+fn kind_fits(kind: Kind, d: u32, total: u32, z: Zone, lists: Lists<'_>, i: usize, n: usize) -> bool
+    ensures { result ≡ kind_in (listed lists.entry) (kind_for kind) d total n i z }
 {
     let fifth = fifth_of(kind, d, z.element);
     1 <= z.zone
         && element_fits(kind, z.element)
         && part_range(total, z.zone, z.first, z.last)
-        && is_clear(kept, i, id_of(kind), z.first, z.last)
+        && is_clear(lists, i, id_of(kind), z.first, z.last)
         && type_listed(kind, z.ztype)
         && fifth_listed(kind, Some(fifth))
         && zone_fits(Some(n), i)
 }
 
 #[tactic(auto, unfolding(crate::specs::inner::Records::record_in))]
-fn record_fits(totals: Totals, z: Zone, kept: &[Kept], i: usize, n: usize) -> bool
-    ensures { result ≡ record_in kept.now totals n i z }
+fn record_fits(totals: Totals, z: Zone, lists: Lists<'_>, i: usize, n: usize) -> bool
+    ensures { result ≡ record_in (listed lists.entry) totals n i z }
 {
     let d = totals.dimension;
     match kind_of(z.section) {
-        Some(Kind::Node) => kind_fits(Kind::Node, d, totals.nodes, z, kept, i, n),
-        Some(Kind::Cell) => kind_fits(Kind::Cell, d, totals.cells, z, kept, i, n),
-        Some(Kind::Face) => kind_fits(Kind::Face, d, totals.faces, z, kept, i, n),
+        Some(Kind::Node) => kind_fits(Kind::Node, d, totals.nodes, z, lists, i, n),
+        Some(Kind::Cell) => kind_fits(Kind::Cell, d, totals.cells, z, lists, i, n),
+        Some(Kind::Face) => kind_fits(Kind::Face, d, totals.faces, z, lists, i, n),
         None => false,
     }
 }
 
 // Whether every declared index is in a record.
 #[tactic(auto, unfolding(crate::specs::inner::Records::tiled_in))]
-fn all_tiled(totals: Totals, kept: &[Kept], n: usize) -> bool
-    ensures { result ≡ tiled_in kept.now totals n }
+fn all_tiled(totals: Totals, lists: Lists<'_>, n: usize) -> bool
+    ensures { result ≡ tiled_in (listed lists.entry) totals n }
 {
-    is_tiled(kept, n, id_of(Kind::Node), totals.nodes)
-        && is_tiled(kept, n, id_of(Kind::Cell), totals.cells)
-        && is_tiled(kept, n, id_of(Kind::Face), totals.faces)
+    is_tiled(lists, n, id_of(Kind::Node), totals.nodes)
+        && is_tiled(lists, n, id_of(Kind::Cell), totals.cells)
+        && is_tiled(lists, n, id_of(Kind::Face), totals.faces)
 }
 
 pub(crate) fn records_fit(totals: Totals, zones: &[u32]) -> bool
@@ -77,21 +78,27 @@ pub(crate) fn records_fit(totals: Totals, zones: &[u32]) -> bool
 {
     let (rows, _) = zones.as_chunks::<ZONE_WORDS>();
     let n = rows.len();
-    let mut kept = [Kept {
-        id: 0,
-        first: 0,
-        last: 0,
-    }; ZONES];
+    let mut ids = [0; ZONES];
+    let mut firsts = [0; ZONES];
+    let mut lasts = [0; ZONES];
     for (i, row) in rows.iter().enumerate() {
         let z = zone_of(row);
-        if !record_fits(totals, z, &kept, i, n) {
+        let before = Lists {
+            ids: &ids,
+            firsts: &firsts,
+            lasts: &lasts,
+        };
+        if !record_fits(totals, z, before, i, n) {
             return false;
         }
-        kept[i] = Kept {
-            id: z.section,
-            first: z.first,
-            last: z.last,
-        };
+        ids[i] = z.section;
+        firsts[i] = z.first;
+        lasts[i] = z.last;
     }
-    all_tiled(totals, &kept, n)
+    let all = Lists {
+        ids: &ids,
+        firsts: &firsts,
+        lasts: &lasts,
+    };
+    all_tiled(totals, all, n)
 }

@@ -4,8 +4,7 @@ use Rattle.mesh.specs.declared.Zone.{Zone}
 use Rattle.layout.specs.Items as Items
 use Rattle.layout.specs.State.{tiled}
 use Rattle.layout.specs.Says.{Mesh}
-use Rattle.kept.specs.declared.Kept.{Kept}
-use Rattle.kept.specs.Kept.{kept_of}
+use Rattle.kept.specs.Kept.{Listed, kept_of}
 use Rattle.texts.specs.Tabled.{by_kind}
 use Rattle.texts.specs.Judged.{record_by}
 use Rattle.texts.specs.Write.{mesh_of, records_in}
@@ -21,7 +20,7 @@ total_in t Items.node = t.nodes
 total_in t Items.cell = t.cells
 total_in t Items.face = t.faces
 
-module _ (kept : List Kept) where
+module _ (kept : Listed) where
   -- place i of n
   abbrev pub kind_in : Items.Kind → ℕ → ℕ → ℕ → ℕ → Zone → Bool
   kind_in k d total n i z = record_by k d total (kept_of kept (Items.id_of k) i) n i z

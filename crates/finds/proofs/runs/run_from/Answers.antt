@@ -1,13 +1,12 @@
 use mathlib.Core.Path.{◌∙◌}
 use native.Mathlib.Omega.{arith}
-use Rattle.tokens.proofs.Laws.{run_out}
 use Rattle.finds.proofs.Passing.{run_passes}
 use Rattle.finds.proofs.Eights.{pass_further, pass_here}
 use Rattle.finds.proofs.runs.run_from.Goals as goal
 
 -- fewer than eight are left
 pub returns-then-rest-lt8 : goal.returns-then-rest-lt8
-returns-then-rest-lt8 g c = λ k show. c.last_from.ensures k show ∙ c.loop-i.invariant k show
+returns-then-rest-lt8 g c = λ k show. (c.loop-i.invariant k show, omega arith)
 
 pub loop-i-preserved : goal.loop-i-preserved
 loop-i-preserved g c = λ k show.
@@ -22,4 +21,4 @@ returns-then-here-ne0 g c = λ k show.
     ∙ c.loop-i.invariant k show
 
 pub returns : goal.returns
-returns g c = λ k show. run_out k _ _ c.loop-i-test.false ∙ c.loop-i.invariant k show
+returns g c = λ k show. (c.loop-i.invariant k show, omega arith)

@@ -1,9 +1,8 @@
 use Rattle.std.proofs.lemmas.Result.{err_from_is_err_and}
 use Rattle.layout.specs.Sections.{head_of}
 use Rattle.spots.specs.Heads.{head_for}
-use mathlib.Core.Path.{refl}
 use Rattle.steps.proofs.Chain.{open_no, open_to, then_no, then_to, then_last}
-use Rattle.heads.proofs.Headers.{fifth_no, fifth_to}
+use Rattle.heads.proofs.Headers.{head_with, fifth_no, fifth_to}
 use Rattle.heads.proofs.head.head_at.Goals as goal
 
 pub returns-in_err-start : goal.returns-in_err-start
@@ -77,4 +76,4 @@ returns c = open_to head_for _ _ _ c.left_at.ensures _ c.in_ok-start.was (
     then_to head_for _ _ _ c.number_at-3.ensures _ c.in_ok-last.was (
     then_to head_for _ _ _ c.number_at-4.ensures _ c.in_ok-ztype.was (
     fifth_to head_for _ _ _ c.fifth_at.ensures _ c.in_ok-fifth.was (
-    then_last head_for _ _ _ c.right_at.ensures _ c.in_ok-close.was _ refl))))))
+    then_last head_for _ _ _ c.right_at.ensures _ c.in_ok-close.was _ (head_with _ _ _ _ _ _ c.word_of.ensures c.place_of.ensures)))))))
