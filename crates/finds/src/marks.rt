@@ -18,7 +18,14 @@ fn marks(x: u64) -> u64
     high ^ digits::HIGHS
 }
 
-// The first mark at or behind a place; without one the file's length, or the place past it. The byte there is looked at first: marks often stand side by side. The last bytes of a file are looked at one by one.
+// Where fewer than eight bytes are left, they are looked at one by one.
+fn last_mark(s: &[u8], at: usize) -> usize
+    ensures { result ≡ mark_of s.now at }
+{
+    (Cursor { at }).mark(s)
+}
+
+// The first mark at or behind a place; without one the file's length, or the place past it. The byte there is looked at first: marks often stand side by side.
 pub fn mark_from(s: &[u8], at: usize) -> usize
     ensures { result ≡ mark_of s.now at }
 {
@@ -31,6 +38,6 @@ pub fn mark_from(s: &[u8], at: usize) -> usize
     }
     match run_from(s, at, marks) {
         Ok(found) => found,
-        Err(last) => (Cursor { at: last }).mark(s),
+        Err(last) => last_mark(s, last),
     }
 }

@@ -26,4 +26,4 @@ pub returns-in-Ok : goal.returns-in-Ok
 returns-in-Ok c = searched_ok _ _ _ (c.run_from.ensures Run.Plain (marks_show _ (λ x r a. search rules))) _ c.in-Ok.is
 
 pub returns-in-Err : goal.returns-in-Err
-returns-in-Err c = c.mark.ensures ∙ (searched_err _ _ _ (c.run_from.ensures Run.Plain (marks_show _ (λ x r a. search rules))) _ c.in-Err.is).0
+returns-in-Err c = c.last_mark.ensures ∙ (searched_err _ _ _ (c.run_from.ensures Run.Plain (marks_show _ (λ x r a. search rules))) _ c.in-Err.is).0
