@@ -1,2 +1,3 @@
 mod Turns
+pub mod Few
 pub mod Only

@@ -27,7 +27,7 @@ fn next_number(s: &[u8], at: usize) -> Option<Taken<Option<u32>>>
     }
 }
 
-// The words of a text that are hexadecimal numbers, in order, as many as there is room for. What is no such word is stepped over. Answers how many stand in the slice.
+// The words of a text that are hexadecimal numbers, in order, as many as there is room for; as many words as the text has bytes are always room enough. What is no such word is stepped over. Answers how many stand in the slice.
 pub fn numbers_of(s: &[u8], numbers: &mut [u32]) -> usize
     ensures numbers { numbers.new ≡ sets numbers.old 0 (numbers_in (tokens_of s.now)) }
     ensures count { result ≡ min (length (numbers_in (tokens_of s.now))) (length numbers.old) }

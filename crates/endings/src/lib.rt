@@ -4,16 +4,18 @@
 ghost use Rattle.std.specs.Prelude.{◌≡◌};
 ghost use Rattle.layout.specs.Read.{end_of};
 ghost use Rattle.layout.specs.Replies.{refuses};
-ghost use Rattle.kept.specs.Kept.{listed};
 ghost use Rattle.sofar.specs.States.{state_for};
 ghost use Rattle.endings.specs.Endings.{verdict, last_of};
 
-use kept::{Lists, is_tiled};
+mod by_lists;
+
+pub use by_lists::last_by_lists;
+use kept::{Kept, is_tiled};
 use layout::{Accepted, Refusal, Refused};
 use sofar::State;
 use tokens::Token;
 
-fn refused(why: Refusal, section: u32, offset: usize) -> Result<Accepted, Refused>
+pub(crate) fn refused(why: Refusal, section: u32, offset: usize) -> Result<Accepted, Refused>
     ensures { result ≡ refuses why section offset }
 {
     Err(Refused {
@@ -25,8 +27,8 @@ fn refused(why: Refusal, section: u32, offset: usize) -> Result<Accepted, Refuse
 
 // "At the end: 13, 10, 14."
 #[tactic(auto, unfolding(layout::specs::Read::end_of))]
-fn end_of(x: State, lists: Lists<'_>, k: u32, size: usize) -> Result<Accepted, Refused>
-    ensures { result ≡ verdict (end_of size (state_for (listed lists.entry) x) k) }
+fn end_of(x: State, kept: &[Kept], k: u32, size: usize) -> Result<Accepted, Refused>
+    ensures { result ≡ verdict (end_of size (state_for kept.now x) k) }
 {
     if !(x.nodes.declared && x.faces.declared) {
         return refused(Refusal::Missing, k, size);
@@ -35,9 +37,9 @@ fn end_of(x: State, lists: Lists<'_>, k: u32, size: usize) -> Result<Accepted, R
         return refused(Refusal::Dimension, k, size);
     }
     let z = x.zones as usize;
-    let tiled = is_tiled(lists, z, 10, x.nodes.total)
-        && is_tiled(lists, z, 12, x.cells.total)
-        && is_tiled(lists, z, 13, x.faces.total);
+    let tiled = is_tiled(kept, z, 10, x.nodes.total)
+        && is_tiled(kept, z, 12, x.cells.total)
+        && is_tiled(kept, z, 13, x.faces.total);
     if !tiled {
         return refused(Refusal::Untiled, k, size);
     }
@@ -55,14 +57,14 @@ pub fn last_of(
     kind: Token,
     start: usize,
     x: State,
-    lists: Lists<'_>,
+    kept: &[Kept],
     k: u32,
     size: usize,
 ) -> Result<Accepted, Refused>
-    ensures { result ≡ last_of kind start (state_for (listed lists.entry) x) k size }
+    ensures { result ≡ last_of kind start (state_for kept.now x) k size }
 {
     match kind {
-        Token::End => end_of(x, lists, k, size),
+        Token::End => end_of(x, kept, k, size),
         _ => refused(Refusal::Grammar, k, start),
     }
 }

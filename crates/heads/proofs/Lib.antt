@@ -1,3 +1,4 @@
 pub mod Headers
+pub mod Placed
 pub mod Alike
 mod Cases

@@ -66,6 +66,11 @@ decl_judged_lem :
 unfolding decl_range
 decl_judged_lem = (refl, refl)
 
+-- the same where nothing is known yet
+decl_judged_first : decl_judged Kind.Cell (knows unseen) None declares ≡ Ok tt
+unfolding decl_range
+decl_judged_first = refl
+
 -- `part_judged`: a range refused at the zone word
 part_judged_lem :
     (part_judged Kind.Cell two 0 None regular true ≡ refused Refusal.Range 7)

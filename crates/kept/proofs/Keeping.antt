@@ -1,85 +1,85 @@
--- What the sections of a kind cover and leave clear, section by section. Assumes nothing.
-use Prim.Native.Nat.{ℕ, zero, suc, ◌+◌, ◌-◌, ◌≤◌, ◌<◌}
+-- What the sections of a kind cover and leave clear, section by section, out of one list. What is said of spans alone holds of three lists, too. Assumes nothing.
+use Prim.Native.Nat.{ℕ, zero, suc, ◌+◌, ◌≤◌, ◌<◌}
 use native.Mathlib.Omega.{arith}
 use mathlib.Core.Path.{◌≡◌, refl, sym, ◌∙◌, ap}
-use mathlib.Core.List.{List, ◌∷◌}
+use mathlib.Core.List.{List, [], ◌∷◌}
 use mathlib.Core.Bool.{Bool, true, false, ◌&&◌, ◌||◌, not}
 use borrow.Author.Tests.{leb-true, leb-false, le-leb, eqb-true, eqb-false}
 use lib.Dec.{leb, ltb, eqb}
-use Rattle.std.specs.Prelude.{Some, None}
+use Rattle.std.specs.Prelude.{Some, None, take}
+use Rattle.std.specs.List.{list_all, list_any, find}
 use Rattle.facts.proofs.Branch.{split}
 use Rattle.facts.proofs.Decides.{and_split, and_join, or_left, or_right}
 use Rattle.layout.specs.State.{Span, every, some_of, clear, covers, tiled}
 use Rattle.kept.specs.declared.Kept.{Kept}
-use Rattle.kept.specs.Kept.{Listed, span_for, apart, holds, kept_at, kept_of, holder_of}
+use Rattle.kept.specs.Kept.{span_for, apart, stacked, kept_of, holds}
 
 -- ---- a test of the spans is a test of the sections
-clear_by : (f l : ℕ) (b : Bool) (s : Span) (bs : List Span) → every (clear f l) (elim b [ true ↦ s ∷ bs | false ↦ bs ]) ≡ ((not b || (ltb s.last f || ltb l s.first)) && every (clear f l) bs)
+pub clear_top : (f l : ℕ) (b : Bool) (s : Span) (bs : List Span) → every (clear f l) (elim b [ true ↦ s ∷ bs | false ↦ bs ]) ≡ ((not b || (ltb s.last f || ltb l s.first)) && every (clear f l) bs)
 unfolding every
-clear_by f l true s bs = refl
-clear_by f l false s bs = refl
+clear_top f l true s bs = refl
+clear_top f l false s bs = refl
 
-some_by : (i : ℕ) (b : Bool) (s : Span) (bs : List Span) → some_of (covers i) (elim b [ true ↦ s ∷ bs | false ↦ bs ]) ≡ ((b && leb s.first i && leb i s.last) || some_of (covers i) bs)
+and_turn : (a b c : Bool) → (a && (b && c)) ≡ ((b && a) && c)
+and_turn true true c = refl
+and_turn true false c = refl
+and_turn false true c = refl
+and_turn false false c = refl
+
+clear_all : (id f l : ℕ) (ks : List Kept) (bs : List Span) → every (clear f l) (stacked id ks bs) ≡ (list_all (apart id f l) ks && every (clear f l) bs)
+unfolding stacked
+clear_all id f l [] bs = refl
+clear_all id f l (k ∷ ks) bs =
+    clear_all id f l ks _ ∙ ap (λ y. list_all (apart id f l) ks && y) (clear_top f l (eqb k.id id) (span_for k) bs) ∙ and_turn (list_all (apart id f l) ks) (apart id f l k) (every (clear f l) bs)
+
+and_true : (b : Bool) → (b && true) ≡ b
+and_true true = refl
+and_true false = refl
+
+pub clear_kept : (ks : List Kept) (id z f l : ℕ) → list_all (apart id f l) (take z ks) ≡ every (clear f l) (kept_of ks id z)
+unfolding every
+clear_kept ks id z f l = sym (clear_all id f l (take z ks) [] ∙ and_true _)
+
+pub some_top : (i : ℕ) (b : Bool) (s : Span) (bs : List Span) → some_of (covers i) (elim b [ true ↦ s ∷ bs | false ↦ bs ]) ≡ ((b && leb s.first i && leb i s.last) || some_of (covers i) bs)
 unfolding some_of
-some_by i true s bs = refl
-some_by i false s bs = refl
+some_top i true s bs = refl
+some_top i false s bs = refl
 
-module _ (ls : Listed) (id : ℕ) where
-  module _ (f l : ℕ) where
-    pub clear_on : (n : ℕ) → every (clear f l) (kept_of ls id (suc n)) ≡ (apart id f l (kept_at ls n) && every (clear f l) (kept_of ls id n))
-    unfolding kept_of
-    clear_on n = clear_by f l (eqb (kept_at ls n).id id) (span_for (kept_at ls n)) (kept_of ls id n)
+or_turn : (a b c : Bool) → (a || (b || c)) ≡ ((b || a) || c)
+or_turn true true c = refl
+or_turn true false c = refl
+or_turn false true c = refl
+or_turn false false c = refl
 
-    module _ (b : Bool) (left : ℕ) (h : 0 < left) (z : b ≡ apart id f l (kept_at ls (left - 1))) where
-      one : every (clear f l) (kept_of ls id left) ≡ (b && every (clear f l) (kept_of ls id (left - 1)))
-      one = let e : left ≡ suc (left - 1) = omega arith in ap (λ n. every (clear f l) (kept_of ls id n)) e ∙ clear_on (left - 1) ∙ ap (λ y. y && every (clear f l) (kept_of ls id (left - 1))) (sym z)
+some_all : (id i : ℕ) (ks : List Kept) (bs : List Span) → some_of (covers i) (stacked id ks bs) ≡ (list_any (holds id i) ks || some_of (covers i) bs)
+unfolding stacked
+some_all id i [] bs = refl
+some_all id i (k ∷ ks) bs =
+    some_all id i ks _ ∙ ap (λ y. list_any (holds id i) ks || y) (some_top i (eqb k.id id) (span_for k) bs) ∙ or_turn (list_any (holds id i) ks) (holds id i k) (some_of (covers i) bs)
 
-      pub clear_more : b ≡ true → every (clear f l) (kept_of ls id (left - 1)) ≡ every (clear f l) (kept_of ls id left)
-      clear_more t = sym (one ∙ ap (λ y. y && every (clear f l) (kept_of ls id (left - 1))) t)
+or_false : (b : Bool) → (b || false) ≡ b
+or_false true = refl
+or_false false = refl
 
-      pub clear_off : b ≡ false → false ≡ every (clear f l) (kept_of ls id left)
-      clear_off t = sym (one ∙ ap (λ y. y && every (clear f l) (kept_of ls id (left - 1))) t)
+some_kept : (ks : List Kept) (id z i : ℕ) → some_of (covers i) (kept_of ks id z) ≡ list_any (holds id i) (take z ks)
+unfolding some_of
+some_kept ks id z i = some_all id i (take z ks) [] ∙ or_false _
 
-    pub clear_none : (left : ℕ) → left ≤ 0 → true ≡ every (clear f l) (kept_of ls id left)
-    unfolding every kept_of
-    clear_none left h = let z : left ≡ 0 = omega arith in ap (λ n. every (clear f l) (kept_of ls id n)) (sym z)
+-- ---- what is found among the sections
+module _ (p : Kept → Bool) where
+  found : (ks : List Kept) {k : Kept} → find p ks ≡ Some k → (p k ≡ true) × ((q : Kept → Bool) → q k ≡ true → list_any q ks ≡ true)
+  found [] e = absurd (cc)
+  found (x ∷ ks) {k} e =
+      split (p x)
+      (λ t. let d : Some x ≡ Some k = rw t at e in let g : x ≡ k = cc in (ap p (sym g) ∙ t, λ q h. or_left _ (ap q g ∙ h)))
+      (λ t. let d : find p ks ≡ Some k = rw t at e in let r = found ks d in (r.0, λ q h. or_right (q x) (r.1 q h)))
 
-  some_on : (i n : ℕ) → some_of (covers i) (kept_of ls id (suc n)) ≡ (holds id i (kept_at ls n) || some_of (covers i) (kept_of ls id n))
-  unfolding kept_of
-  some_on i n = some_by i (eqb (kept_at ls n).id id) (span_for (kept_at ls n)) (kept_of ls id n)
-
-  -- ---- the last that holds an index
-  module _ (i : ℕ) (b : Bool) (left : ℕ) (h : 0 < left) (z : b ≡ holds id i (kept_at ls (left - 1))) where
-    last_of : holder_of ls id i left ≡ elim b [ true ↦ Some (kept_at ls (left - 1)) | false ↦ holder_of ls id i (left - 1) ]
-    unfolding holder_of
-    last_of = let e : left ≡ suc (left - 1) = omega arith in ap (holder_of ls id i) e ∙ ap (λ (y : Bool). elim y [ true ↦ Some (kept_at ls (left - 1)) | false ↦ holder_of ls id i (left - 1) ]) (sym z)
-
-    pub holder_hit : b ≡ true → Some (kept_at ls (left - 1)) ≡ holder_of ls id i left
-    holder_hit t = sym (rw t at last_of)
-
-    pub holder_more : b ≡ false → holder_of ls id i (left - 1) ≡ holder_of ls id i left
-    holder_more t = sym (rw t at last_of)
-
-  pub holder_none : (i left : ℕ) → left ≤ 0 → None ≡ holder_of ls id i left
-  unfolding holder_of
-  holder_none i left h = let z : left ≡ 0 = omega arith in ap (holder_of ls id i) (sym z)
-
-  -- ---- what is found among the sections
-  pub found : (i z : ℕ) {k : Kept} → holder_of ls id i z ≡ Some k → (holds id i k ≡ true) × ((j : ℕ) → holds id j k ≡ true → some_of (covers j) (kept_of ls id z) ≡ true)
-  unfolding holder_of
-  found i zero e = absurd (cc)
-  found i (suc n) {k} e =
-      split (holds id i (kept_at ls n))
-      (λ t. let d : Some (kept_at ls n) ≡ Some k = rw (holder_of, t) at e in let g : kept_at ls n ≡ k = cc in (ap (holds id i) (sym g) ∙ t, λ j h. some_on j n ∙ or_left _ (ap (holds id j) g ∙ h)))
-      (λ t. let d : holder_of ls id i n ≡ Some k = rw (holder_of, t) at e in let r = found i n d in (r.0, λ j h. some_on j n ∙ or_right (holds id j (kept_at ls n)) (r.1 j h)))
-
-  pub missing : (i z : ℕ) → holder_of ls id i z ≡ None → some_of (covers i) (kept_of ls id z) ≡ false
-  unfolding holder_of kept_of some_of
-  missing i zero e = refl
-  missing i (suc n) e =
-      split (holds id i (kept_at ls n))
-      (λ t. let d : Some (kept_at ls n) ≡ None = rw (holder_of, t) at e in absurd (cc))
-      (λ t. let d : holder_of ls id i n ≡ None = rw (holder_of, t) at e in some_on i n ∙ ap (λ b. b || some_of (covers i) (kept_of ls id n)) t ∙ missing i n d)
+  missing : (ks : List Kept) → find p ks ≡ None → list_any p ks ≡ false
+  missing [] e = refl
+  missing (x ∷ ks) e =
+      split (p x)
+      (λ t. let d : Some x ≡ None = rw t at e in absurd (cc))
+      (λ t. let d : find p ks ≡ None = rw t at e in rw t (missing ks d))
 
 -- ---- tiling: 1 to n are all in a span
 abbrev pub Tiles : List Span → ℕ → Type 0
@@ -100,7 +100,7 @@ and_no : (a : Bool) {b : Bool} → false ≡ b → false ≡ (a && b)
 and_no true e = e
 and_no false e = refl
 
-gap : (bs : List Span) (n j : ℕ) → 1 ≤ j → j ≤ n → some_of (covers j) bs ≡ false → false ≡ tiled bs n
+pub gap : (bs : List Span) (n j : ℕ) → 1 ≤ j → j ≤ n → some_of (covers j) bs ≡ false → false ≡ tiled bs n
 unfolding tiled
 gap bs zero j p q e = absurd (omega arith)
 gap bs (suc n) j p q e =
@@ -108,23 +108,32 @@ gap bs (suc n) j p q e =
     (λ t. let z : j ≡ suc n = eqb-true j (suc n) t in rw (sym z, e))
     (λ t. let z : j ≡ suc n → ⊥ = eqb-false j (suc n) t in let w : j ≤ n = omega arith in and_no (some_of (covers (suc n)) bs) (gap bs n j p w e))
 
-module _ (ls : Listed) (id z done : ℕ) where
-  pub tiles_gap : (total : ℕ) → done < total → holder_of ls id (done + 1) z ≡ None → false ≡ tiled (kept_of ls id z) total
-  tiles_gap total h e = gap _ total (done + 1) (omega arith) (omega arith) (missing ls id (done + 1) z e)
+-- a section that has the next index, and whose indices are all in a span
+module _ (bs : List Span) (id done : ℕ) (k : Kept) (e : holds id (done + 1) k ≡ true) where
+  held : ((eqb k.id id && leb k.first (done + 1)) ≡ true) × (leb (done + 1) k.last ≡ true)
+  held = and_split _ _ e
 
-  module _ (k : Kept) (e : holder_of ls id (done + 1) z ≡ Some k) where
-    held : ((eqb k.id id && leb k.first (done + 1)) ≡ true) × (leb (done + 1) k.last ≡ true)
-    held = and_split _ _ (found ls id (done + 1) z e).0
+  pub held_further : done < k.last
+  held_further = let h : done + 1 ≤ k.last = leb-true _ _ held.1 in omega arith
 
+  pub held_more : ((j : ℕ) → holds id j k ≡ true → some_of (covers j) bs ≡ true) → Tiles bs done → Tiles bs k.last
+  held_more f t j p r =
+      split (leb j done)
+      (λ s. t j p (leb-true j done s))
+      (λ s.
+      let after : done < j = leb-false j done s in
+      let in_kind = and_split _ _ held.0 in
+      let low : k.first ≤ done + 1 = leb-true k.first (done + 1) in_kind.1 in
+      f j (and_join (and_join in_kind.0 (le-leb k.first j (omega arith))) (le-leb j k.last r)))
+
+-- ---- the sections of one list
+module _ (ks : List Kept) (id z done : ℕ) where
+  pub tiles_gap : (total : ℕ) → done < total → find (holds id (done + 1)) (take z ks) ≡ None → false ≡ tiled (kept_of ks id z) total
+  tiles_gap total h e = gap _ total (done + 1) (omega arith) (omega arith) (some_kept ks id z (done + 1) ∙ missing _ (take z ks) e)
+
+  module _ (k : Kept) (e : find (holds id (done + 1)) (take z ks) ≡ Some k) where
     pub further : done < k.last
-    further = let h : done + 1 ≤ k.last = leb-true _ _ held.1 in omega arith
+    further = held_further (kept_of ks id z) id done k (found _ (take z ks) e).0
 
-    pub tiles_more : Tiles (kept_of ls id z) done → Tiles (kept_of ls id z) k.last
-    tiles_more t j p r =
-        split (leb j done)
-        (λ s. t j p (leb-true j done s))
-        (λ s.
-        let after : done < j = leb-false j done s in
-        let in_kind = and_split _ _ held.0 in
-        let low : k.first ≤ done + 1 = leb-true k.first (done + 1) in_kind.1 in
-        (found ls id (done + 1) z e).1 j (and_join (and_join in_kind.0 (le-leb k.first j (omega arith))) (le-leb j k.last r)))
+    pub tiles_more : Tiles (kept_of ks id z) done → Tiles (kept_of ks id z) k.last
+    tiles_more = held_more (kept_of ks id z) id done k (found _ (take z ks) e).0 (λ j h. some_kept ks id z j ∙ (found _ (take z ks) e).1 (holds id j) h)

@@ -1,4 +1,6 @@
 pub mod Keeping
+pub mod ByLists
 pub mod Stored
+pub mod StoredByLists
 pub mod Only
 mod Cases

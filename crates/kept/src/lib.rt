@@ -1,11 +1,16 @@
-// The regular sections met so far, in order: id, first and last of each, in three slices side by side.
+// The regular sections met so far, in order: as one slice, or as three side by side.
 #![tactic(auto)]
 
-ghost use Rattle.std.specs.Prelude.{◌≡◌, get_or};
+ghost use Rattle.std.specs.Prelude.{◌≡◌, take};
+ghost use Rattle.std.specs.List.{find};
 ghost use Rattle.layout.specs.State.{every, clear, tiled};
-ghost use Rattle.kept.specs.Kept.{listed, apart, holds, kept_at, kept_of, holder_of};
+ghost use Rattle.kept.specs.Kept.{holds, kept_of};
 
-// Three slices, since a call may have them of any length. A word behind the end of one is 0.
+mod by_lists;
+
+pub use by_lists::{is_clear_by_lists, is_tiled_by_lists};
+
+// The id, the first and the last of each: three slices, since a call may have them of any length. A word behind the end of one is 0.
 #[derive(Clone, Copy)]
 pub struct Lists<'a> {
     pub ids: &'a [u32],
@@ -21,71 +26,71 @@ pub struct Kept {
     pub last: u32,
 }
 
-fn word_at(w: &[u32], i: usize) -> u32
-    ensures { result ≡ get_or w.now i 0 }
+// Whether first to last meets none of the first z sections that is of this kind. The number stands beside the slice: with a part of it callers would have to show, at each call, that z is within.
+pub fn is_clear(kept: &[Kept], z: usize, id: u32, first: u32, last: u32) -> bool
+    ensures { result ≡ every (clear first last) (kept_of kept.now id z) }
 {
-    if i < w.len() { w[i] } else { 0 }
+    kept.iter()
+        .take(z)
+        .all(|k| k.id != id || k.last < first || last < k.first)
 }
 
-fn kept_at(lists: Lists<'_>, i: usize) -> Kept
-    ensures { result ≡ kept_at (listed lists.entry) i }
+// The first of the first z sections that is of this kind and has i in it.
+fn holder(kept: &[Kept], z: usize, id: u32, i: u32) -> Option<Kept>
+    ensures { result ≡ find (holds id i) (take z kept.now) }
 {
-    Kept {
-        id: word_at(lists.ids, i),
-        first: word_at(lists.firsts, i),
-        last: word_at(lists.lasts, i),
-    }
-}
-
-// Of another kind, or without an index from first to last.
-fn is_apart(met: Kept, id: u32, first: u32, last: u32) -> bool
-    ensures { result ≡ apart id first last met }
-{
-    met.id != id || met.last < first || last < met.first
-}
-
-// Of this kind, with i in it.
-fn holds(met: Kept, id: u32, i: u32) -> bool
-    ensures { result ≡ holds id i met }
-{
-    met.id == id && met.first <= i && i <= met.last
-}
-
-// Whether first to last meets none of the first z sections that is of this kind.
-pub fn is_clear(lists: Lists<'_>, z: usize, id: u32, first: u32, last: u32) -> bool
-    ensures { result ≡ every (clear first last) (kept_of (listed lists.entry) id z) }
-{
-    for i in (0..z).rev() {
-        if !is_apart(kept_at(lists, i), id, first, last) {
-            return false;
-        }
-    }
-    true
-}
-
-// The last of the first z sections that is of this kind and has i in it.
-fn holder(lists: Lists<'_>, z: usize, id: u32, i: u32) -> Option<Kept>
-    ensures { result ≡ holder_of (listed lists.entry) id i z }
-{
-    for left in (0..z).rev() {
-        let met = kept_at(lists, left);
-        if holds(met, id, i) {
-            return Some(met);
-        }
-    }
-    None
+    kept.iter()
+        .take(z)
+        .copied()
+        .find(|k| k.id == id && k.first <= i && i <= k.last)
 }
 
 // Whether the first z sections that are of this kind have every index from 1 to total: from one section's last index on to the next, which no counted loop is.
-pub fn is_tiled(lists: Lists<'_>, z: usize, id: u32, total: u32) -> bool
-    ensures { result ≡ tiled (kept_of (listed lists.entry) id z) total }
+pub fn is_tiled(kept: &[Kept], z: usize, id: u32, total: u32) -> bool
+    ensures { result ≡ tiled (kept_of kept.now id z) total }
 {
     let mut done = 0;
     while done < total {
-        let Some(met) = holder(lists, z, id, done + 1) else {
+        let Some(met) = holder(kept, z, id, done + 1) else {
             return false;
         };
         done = met.last;
     }
     true
+}
+
+#[test]
+fn one_slice_and_three_lists_answer_alike(rt: HostRuntime) {
+    let cell = Kept {
+        id: 12,
+        first: 1,
+        last: 3,
+    };
+    let face = Kept {
+        id: 13,
+        first: 1,
+        last: 9,
+    };
+    let more = Kept {
+        id: 12,
+        first: 4,
+        last: 6,
+    };
+    let kept = [cell, face, more];
+    assert!(rt; is_clear(&kept, 2, 12, 4, 6));
+    assert!(rt; !is_clear(&kept, 3, 12, 6, 7));
+    assert!(rt; is_tiled(&kept, 3, 12, 6));
+    assert!(rt; !is_tiled(&kept, 2, 12, 6));
+    let lists = Lists {
+        ids: &[12, 13, 12],
+        firsts: &[1, 1, 4],
+        lasts: &[3, 9, 6],
+    };
+    assert!(rt; is_clear_by_lists(lists, 2, 12, 4, 6));
+    assert!(rt; !is_clear_by_lists(lists, 3, 12, 6, 7));
+    assert!(rt; is_tiled_by_lists(lists, 3, 12, 6));
+    assert!(rt; !is_tiled_by_lists(lists, 2, 12, 6));
+    // A slice has nothing behind its end; three lists have a section 0 from 0 to 0 there.
+    assert!(rt; is_clear(&kept, 4, 0, 0, 5));
+    assert!(rt; !is_clear_by_lists(lists, 4, 0, 0, 5));
 }

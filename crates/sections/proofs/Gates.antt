@@ -11,7 +11,7 @@ use Rattle.tokens.specs.Listed.{Tok}
 use Rattle.layout.specs.declared.Refusal.{Refusal}
 use Rattle.layout.specs.Items as Items
 use Rattle.layout.specs.Reading.{Got, got, bad, Reader, next, pure, choose, right_of}
-use Rattle.layout.specs.State.{dim_after, dim_agrees, dim_listed, type_listed, fifth_listed, fits_in, decl_range, part_range, zone_fits}
+use Rattle.layout.specs.State.{Span, dim_after, dim_agrees, dim_listed, type_listed, fifth_listed, fits_in, decl_range, part_range, zone_fits}
 use Rattle.layout.specs.Sections.{header_of, body_of, decl_of, part_of}
 use Rattle.spots.specs.declared.Kind.{Kind}
 use Rattle.spots.specs.declared.Head.{Head}
@@ -19,7 +19,6 @@ use Rattle.sofar.specs.declared.State.{State}
 use Rattle.sofar.specs.declared.Room.{Room}
 use Rattle.std.specs.Prelude.{Result, Ok}
 use Rattle.spots.specs.declared.Bad.{Bad}
-use Rattle.kept.specs.Kept.{Listed}
 use Rattle.notes.specs.declared.note.Met.{Met}
 use Rattle.spots.specs.Heads.{kind_for, fifth_for, head_for}
 use Rattle.bodies.specs.Bodies.{forget}
@@ -28,7 +27,7 @@ use Rattle.dims.specs.Dims.{dim_word_for, agrees, known}
 use Rattle.judging.specs.Judging.{test, decl_judged, part_judged}
 use Rattle.sofar.specs.Sofar.{seen_of, room_of, count_for}
 use Rattle.sections.specs.Sections.{Outline, outline_of, outlined, met_for, room_all, clear_for, gate, ended, body_ended}
-use Rattle.sofar.specs.States.{state_for}
+use Rattle.sofar.specs.States.{state_by}
 
 -- ---- the tests of the code are those of the layout
 pub record Test : Type 0 where
@@ -65,11 +64,11 @@ module _ (size : ℕ) (ts : List Tok) where
   body_by k h (bad w o) = refl
 
 -- ---- headers
-module _ (kept : Listed) (size : ℕ) (x : State) (room : Room) (h : Head) (ts : List Tok) where
+module _ (spans : ℕ → ℕ → List Span) (size : ℕ) (x : State) (room : Room) (h : Head) (ts : List Tok) where
   abbrev dim_with : Kind → Bool
-  dim_with k = dim_agrees (state_for kept x) (fifth_for (dim_word_for k h.fifth))
+  dim_with k = dim_agrees (state_by spans x) (fifth_for (dim_word_for k h.fifth))
 
-  agreeing : (v : Items.Perhaps) → agrees x.dim v ≡ dim_agrees (state_for kept x) v
+  agreeing : (v : Items.Perhaps) → agrees x.dim v ≡ dim_agrees (state_by spans x) v
   agreeing Items.absent = refl
   agreeing (Items.given n) = refl
 
@@ -87,7 +86,7 @@ module _ (kept : Listed) (size : ℕ) (x : State) (room : Room) (h : Head) (ts :
   part_tests k agree =
       record { ok = (seen_of x k).declared; why = Refusal.Undeclared; offset = h.zone.at }
       ∷ record { ok = part_range (seen_of x k).total h.zone.value h.first.value h.last.value; why = Refusal.Range; offset = h.first.at }
-      ∷ record { ok = clear_for kept k x.zones h; why = Refusal.Overlap; offset = h.first.at }
+      ∷ record { ok = clear_for spans k x.zones h; why = Refusal.Overlap; offset = h.first.at }
       ∷ record { ok = type_listed (kind_for k) h.ztype.value; why = Refusal.Type; offset = h.ztype.at }
       ∷ record { ok = fifth_listed (kind_for k) (fifth_for h.fifth); why = Refusal.Type; offset = h.place }
       ∷ record { ok = agree; why = Refusal.Dimension; offset = h.place }
@@ -108,7 +107,7 @@ module _ (kept : Listed) (size : ℕ) (x : State) (room : Room) (h : Head) (ts :
       ∙ gates (ended size (Met.Decl k h)) ts _ (ended_by size ts (Met.Decl k h) (Items.decl (kind_for k) (header_of (head_for h))) refl (right_of size ts)) (decl_tests k (dim_with k))
 
   pub decl_is : (k : Kind)
-      → gate (decl_judged k x (room_of room k) h) (ended size (Met.Decl k h)) ts ≡ outlined (decl_of size (room_all room) (kind_for k) (state_for kept x) (head_for h) ts)
+      → gate (decl_judged k x (room_of room k) h) (ended size (Met.Decl k h)) ts ≡ outlined (decl_of size (room_all room) (kind_for k) (state_by spans x) (head_for h) ts)
   unfolding decl_of
   decl_is Kind.Node = decl_gates Kind.Node
   decl_is Kind.Cell = decl_gates Kind.Cell
@@ -149,7 +148,7 @@ module _ (kept : Listed) (size : ℕ) (x : State) (room : Room) (h : Head) (ts :
   -- the tests behind the first two
   abbrev later_tests : Kind → List Test
   later_tests k =
-      record { ok = clear_for kept k x.zones h; why = Refusal.Overlap; offset = h.first.at }
+      record { ok = clear_for spans k x.zones h; why = Refusal.Overlap; offset = h.first.at }
       ∷ record { ok = type_listed (kind_for k) h.ztype.value; why = Refusal.Type; offset = h.ztype.at }
       ∷ record { ok = fifth_listed (kind_for k) (fifth_for h.fifth); why = Refusal.Type; offset = h.place }
       ∷ record { ok = dim_with k; why = Refusal.Dimension; offset = h.place }
@@ -163,8 +162,8 @@ module _ (kept : Listed) (size : ℕ) (x : State) (room : Room) (h : Head) (ts :
       (count_by_lem (part_range (seen_of x k).total h.zone.value h.first.value h.last.value) Refusal.Range h.first.at (λ n. got_of (later_tests k) (part_got k n)) (counted (seen_of x k).total))
 
   pub part_is : (k : Kind)
-      → gate (part_judged k x x.zones room.zones h (clear_for kept k x.zones h)) (body_ended size k x.dim h) ts
-      ≡ outlined (part_of size (room_all room) (kind_for k) (state_for kept x) (head_for h) ts)
+      → gate (part_judged k x x.zones room.zones h (clear_for spans k x.zones h)) (body_ended size k x.dim h) ts
+      ≡ outlined (part_of size (room_all room) (kind_for k) (state_by spans x) (head_for h) ts)
   unfolding part_of
   part_is Kind.Node = part_gates Kind.Node ∙ ap outlined (part_count Kind.Node)
   part_is Kind.Cell = part_gates Kind.Cell ∙ ap outlined (part_count Kind.Cell)
@@ -176,12 +175,12 @@ module _ (kept : Listed) (size : ℕ) (x : State) (room : Room) (h : Head) (ts :
 
   abbrev behind_head : Kind → Got Outline
   behind_head k =
-      outlined (choose (eqb h.zone.value 0) (decl_of size (room_all room) (kind_for k) (state_for kept x) (head_for h))
-      (part_of size (room_all room) (kind_for k) (state_for kept x) (head_for h)) ts)
+      outlined (choose (eqb h.zone.value 0) (decl_of size (room_all room) (kind_for k) (state_by spans x) (head_for h))
+      (part_of size (room_all room) (kind_for k) (state_by spans x) (head_for h)) ts)
 
   pub head_decl : (k : Kind) → h.zone.value ≡ 0 → gate (decl_judged k x (room_of room k) h) (ended size (Met.Decl k h)) ts ≡ behind_head k
-  head_decl k e = decl_is k ∙ ap outlined (chosen (eqb h.zone.value 0) true (eq-eqb _ _ e) (decl_of size (room_all room) (kind_for k) (state_for kept x) (head_for h)) (part_of size (room_all room) (kind_for k) (state_for kept x) (head_for h)))
+  head_decl k e = decl_is k ∙ ap outlined (chosen (eqb h.zone.value 0) true (eq-eqb _ _ e) (decl_of size (room_all room) (kind_for k) (state_by spans x) (head_for h)) (part_of size (room_all room) (kind_for k) (state_by spans x) (head_for h)))
 
   pub head_part : (k : Kind) → (h.zone.value ≡ 0 → ⊥)
-      → gate (part_judged k x x.zones room.zones h (clear_for kept k x.zones h)) (body_ended size k x.dim h) ts ≡ behind_head k
-  head_part k n = part_is k ∙ ap outlined (chosen (eqb h.zone.value 0) false (ne_eqb _ _ n) (decl_of size (room_all room) (kind_for k) (state_for kept x) (head_for h)) (part_of size (room_all room) (kind_for k) (state_for kept x) (head_for h)))
+      → gate (part_judged k x x.zones room.zones h (clear_for spans k x.zones h)) (body_ended size k x.dim h) ts ≡ behind_head k
+  head_part k n = part_is k ∙ ap outlined (chosen (eqb h.zone.value 0) false (ne_eqb _ _ n) (decl_of size (room_all room) (kind_for k) (state_by spans x) (head_for h)) (part_of size (room_all room) (kind_for k) (state_by spans x) (head_for h)))

@@ -11,7 +11,7 @@ use Rattle.tokens.specs.Listed.{tokens_from}
 use Rattle.layout.specs.declared.Refusal.{Refusal}
 use Rattle.layout.specs.Items as Items
 use Rattle.layout.specs.Reading.{Got, got, Reader, next, pure, check, right_of, skip}
-use Rattle.layout.specs.State.{every, clear, dim_after, dim_agrees, dim_listed}
+use Rattle.layout.specs.State.{Span, every, clear, dim_after, dim_agrees, dim_listed}
 use Rattle.layout.specs.State as St
 use Rattle.layout.specs.Keeps as Keeps
 use Rattle.layout.specs.Sections.{body_of, other_of}
@@ -26,7 +26,6 @@ use Rattle.steps.specs.Views.{CloseAt}
 use Rattle.spots.specs.Pasts.{past_view, PastAt, taken, TakenAt}
 use Rattle.spots.specs.Heads.{kind_for, fifth_for}
 use Rattle.bodies.specs.Bodies.{forget, LooseAt}
-use Rattle.kept.specs.Kept.{Listed, kept_of}
 use Rattle.dims.specs.Dims.{dim_word_for}
 use Rattle.judging.specs.Judging.{decl_judged, part_judged}
 use Rattle.sofar.specs.Sofar.{room_of, id_for, count_for}
@@ -74,11 +73,11 @@ module _ (x : State) (room : Room) (k : Kind) (h : Head) where
   pub decl_as : {limit : Option ℕ} {j : Result Unit Bad} → limit ≡ room_of room k → j ≡ decl_judged k x limit h → j ≡ decl_judged k x (room_of room k) h
   decl_as z q = q ∙ ap (λ y. decl_judged k x y h) z
 
-  pub part_as : (kept : Listed) {id : ℕ} {apart : Bool} {j : Result Unit Bad} → id ≡ id_for k
-      → apart ≡ every (clear h.first.value h.last.value) (kept_of kept id x.zones)
+  pub part_as : (spans : ℕ → ℕ → List Span) {id : ℕ} {apart : Bool} {j : Result Unit Bad} → id ≡ id_for k
+      → apart ≡ every (clear h.first.value h.last.value) (spans id x.zones)
       → j ≡ part_judged k x x.zones room.zones h apart
-      → j ≡ part_judged k x x.zones room.zones h (clear_for kept k x.zones h)
-  part_as kept i z q = q ∙ ap (part_judged k x x.zones room.zones h) (z ∙ ap (λ y. every (clear h.first.value h.last.value) (kept_of kept y x.zones)) i)
+      → j ≡ part_judged k x x.zones room.zones h (clear_for spans k x.zones h)
+  part_as spans i z q = q ∙ ap (part_judged k x x.zones room.zones h) (z ∙ ap (λ y. every (clear h.first.value h.last.value) (spans y x.zones)) i)
 
 pub body_as : (s : List ℕ) (at : ℕ) (k : Kind) (dim : ℕ) (h : Head) {f w : Option ℕ} {d n : ℕ} {p : Result ℕ Bad} → f ≡ h.fifth → w ≡ dim_word_for k f → d ≡ dim_after dim (fifth_for w) → n ≡ count_for h.first.value h.last.value
     → LooseAt s at p (forget (body_of (length s) (kind_for k) d n (fifth_for f) (tokens_from s at)))

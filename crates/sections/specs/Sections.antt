@@ -4,7 +4,7 @@ use Rattle.layout.specs.declared.Refusal.{Refusal}
 use Rattle.layout.specs.Items as Items
 use Rattle.layout.specs.Keeps as Keeps
 use Rattle.layout.specs.State as St
-use Rattle.layout.specs.State.{every, clear, dim_after, dim_listed, dim_agrees}
+use Rattle.layout.specs.State.{Span, every, clear, dim_after, dim_listed, dim_agrees}
 use Rattle.layout.specs.Reading.{Got, got, bad, Reader, next, ◌>>◌, pure, check, choose, right_of}
 use Rattle.layout.specs.Sections.{header_of, body_of, two_of, kind_of, other_of}
 use Rattle.spots.specs.declared.Kind.{Kind}
@@ -16,7 +16,6 @@ use Rattle.facts.specs.declared.Taken.{Taken}
 use Rattle.spots.specs.Pasts.{taken_view, TakenAt}
 use Rattle.spots.specs.Heads.{kind_for, fifth_for, head_for}
 use Rattle.bodies.specs.Bodies.{forget}
-use Rattle.kept.specs.Kept.{Listed, kept_of}
 use Rattle.ranges.specs.Ranges.{limit_for}
 use Rattle.dims.specs.Dims.{dim_word_for, agrees}
 use Rattle.judging.specs.Judging.{test}
@@ -55,9 +54,10 @@ SectAt = TakenAt met_for
 abbrev pub room_all : Room → Keeps.Room
 room_all r = record { nodes = limit_for r.nodes; cells = limit_for r.cells; faces = limit_for r.faces; zones = limit_for r.zones }
 
-module _ (kept : Listed) where
+-- clear of what the first z sections of the kind cover
+module _ (spans : ℕ → ℕ → List Span) where
   abbrev pub clear_for : Kind → ℕ → Head → Bool
-  clear_for k z h = every (clear h.first.value h.last.value) (kept_of kept (id_for k) z)
+  clear_for k z h = every (clear h.first.value h.last.value) (spans (id_for k) z)
 
 -- ---- what is left of a section
 -- what a judgement lets through

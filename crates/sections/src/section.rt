@@ -8,7 +8,7 @@ ghost use Rattle.layout.specs.Sections.{two_of, decl_of, part_of, kind_of, other
 ghost use Rattle.spots.specs.Heads.{kind_for, head_for};
 ghost use Rattle.judging.specs.Judging.{decl_judged, part_judged};
 ghost use Rattle.sofar.specs.Sofar.{room_of};
-ghost use Rattle.kept.specs.Kept.{listed};
+ghost use Rattle.kept.specs.Kept.{kept_of};
 ghost use Rattle.sofar.specs.States.{state_for};
 ghost use Rattle.sections.specs.Sections.{SectAt, two_judged, gate, ended, body_ended, outlined, room_all, clear_for, by_id};
 
@@ -18,7 +18,7 @@ use facts::Taken;
 use heads::head_at;
 use ids::id_at;
 use judging::{decl_judged, ensure, part_judged};
-use kept::{Lists, is_clear};
+use kept::{Kept, is_clear};
 use layout::Refusal;
 use notes::Met;
 use numbers::Sort;
@@ -38,7 +38,7 @@ fn end_at(s: &[u8], at: usize, met: Met) -> Result<Taken<Met>, Bad>
     })
 }
 
-fn decl_at(
+pub(crate) fn decl_at(
     s: &[u8],
     at: usize,
     kind: Kind,
@@ -53,7 +53,7 @@ fn decl_at(
 }
 
 // The body and the `)` of a regular section whose header is good.
-fn rows_at(s: &[u8], at: usize, kind: Kind, dim: u32, h: Head) -> Result<Taken<Met>, Bad>
+pub(crate) fn rows_at(s: &[u8], at: usize, kind: Kind, dim: u32, h: Head) -> Result<Taken<Met>, Bad>
     ensures { SectAt s.now at result (body_ended (length s.now) kind dim h (tokens_from s.now at)) }
 {
     let fifth = h.word();
@@ -71,13 +71,13 @@ fn part_at(
     x: State,
     room: Room,
     h: Head,
-    lists: Lists<'_>,
+    kept: &[Kept],
 ) -> Result<Taken<Met>, Bad>
-    ensures { SectAt s.now at result (gate (part_judged kind x x.zones room.zones h (clear_for (listed lists.entry) kind x.zones h)) (body_ended (length s.now) kind x.dim h) (tokens_from s.now at)) }
+    ensures { SectAt s.now at result (gate (part_judged kind x x.zones room.zones h (clear_for (kept_of kept.now) kind x.zones h)) (body_ended (length s.now) kind x.dim h) (tokens_from s.now at)) }
 {
     let id = id_of(kind);
     let zones = x.zones as usize;
-    let apart = is_clear(lists, zones, id, h.first.value, h.last.value);
+    let apart = is_clear(kept, zones, id, h.first.value, h.last.value);
     part_judged(kind, x, zones, room.zones, h, apart)?;
     rows_at(s, at, kind, x.dim, h)
 }
@@ -90,15 +90,15 @@ fn behind_head(
     x: State,
     room: Room,
     h: Head,
-    lists: Lists<'_>,
+    kept: &[Kept],
 ) -> Result<Taken<Met>, Bad>
-    ensures { SectAt s.now at result (outlined (choose (eqb h.zone.value 0) (decl_of (length s.now) (room_all room) (kind_for kind) (state_for (listed lists.entry) x) (head_for h)) (part_of (length s.now) (room_all room) (kind_for kind) (state_for (listed lists.entry) x) (head_for h)) (tokens_from s.now at))) }
+    ensures { SectAt s.now at result (outlined (choose (eqb h.zone.value 0) (decl_of (length s.now) (room_all room) (kind_for kind) (state_for kept.now x) (head_for h)) (part_of (length s.now) (room_all room) (kind_for kind) (state_for kept.now x) (head_for h)) (tokens_from s.now at))) }
 {
     let zone = h.zone.value;
     if zone == 0 {
         decl_at(s, at, kind, x, room, h)
     } else {
-        part_at(s, at, kind, x, room, h, lists)
+        part_at(s, at, kind, x, room, h, kept)
     }
 }
 
@@ -108,12 +108,12 @@ fn kind_at(
     kind: Kind,
     x: State,
     room: Room,
-    lists: Lists<'_>,
+    kept: &[Kept],
 ) -> Result<Taken<Met>, Bad>
-    ensures { SectAt s.now at result (outlined (kind_of (length s.now) (room_all room) (kind_for kind) (state_for (listed lists.entry) x) (tokens_from s.now at))) }
+    ensures { SectAt s.now at result (outlined (kind_of (length s.now) (room_all room) (kind_for kind) (state_for kept.now x) (tokens_from s.now at))) }
 {
     let head = head_at(s, at, kind)?;
-    behind_head(s, head.next, kind, x, room, head.value, lists)
+    behind_head(s, head.next, kind, x, room, head.value, kept)
 }
 
 // Type, Dimension.
@@ -126,7 +126,7 @@ fn two_judged(dim: u32, value: u32, start: usize) -> Result<(), Bad>
 }
 
 // Section 2: N and the `)`.
-fn two_at(s: &[u8], at: usize, dim: u32) -> Result<Taken<Met>, Bad>
+pub(crate) fn two_at(s: &[u8], at: usize, dim: u32) -> Result<Taken<Met>, Bad>
     ensures { (x : St.State) → dim ≡ x.dimension → SectAt s.now at result (outlined (two_of (length s.now) x (tokens_from s.now at))) }
 {
     let n = number_at(s, at, Sort::Hexadecimal)?;
@@ -138,7 +138,7 @@ fn two_at(s: &[u8], at: usize, dim: u32) -> Result<Taken<Met>, Bad>
     })
 }
 
-fn other_at(s: &[u8], at: usize) -> Result<Taken<Met>, Bad>
+pub(crate) fn other_at(s: &[u8], at: usize) -> Result<Taken<Met>, Bad>
     ensures { (room : Keeps.Room) → SectAt s.now at result (outlined (other_of (length s.now) room (tokens_from s.now at))) }
 {
     let next = skip_from(s, at)?;
@@ -154,20 +154,20 @@ fn by_id(
     id: u32,
     x: State,
     room: Room,
-    lists: Lists<'_>,
+    kept: &[Kept],
 ) -> Result<Taken<Met>, Bad>
-    ensures { SectAt s.now at result (outlined (by_id (length s.now) (room_all room) id (state_for (listed lists.entry) x) (tokens_from s.now at))) }
+    ensures { SectAt s.now at result (outlined (by_id (length s.now) (room_all room) id (state_for kept.now x) (tokens_from s.now at))) }
 {
     if id == 2 {
         return two_at(s, at, x.dim);
     }
     match kind_of(id) {
-        Some(kind) => kind_at(s, at, kind, x, room, lists),
+        Some(kind) => kind_at(s, at, kind, x, room, kept),
         None => other_at(s, at),
     }
 }
 
-fn is_text(id: u32) -> bool
+pub(crate) fn is_text(id: u32) -> bool
     ensures { result ≡ (ltb id 2000 || ltb 3999 id) }
 {
     id < 2000 || 3999 < id
@@ -179,13 +179,13 @@ pub fn section_at(
     at: usize,
     x: State,
     room: Room,
-    lists: Lists<'_>,
+    kept: &[Kept],
 ) -> Result<Taken<Met>, Bad>
-    ensures { SectAt s.now at result (outlined (section_of (length s.now) (room_all room) (state_for (listed lists.entry) x) (tokens_from s.now at))) }
+    ensures { SectAt s.now at result (outlined (section_of (length s.now) (room_all room) (state_for kept.now x) (tokens_from s.now at))) }
 {
     let id = id_at(s, at)?;
     if is_text(id.value.value) {
-        return by_id(s, id.next, id.value.value, x, room, lists);
+        return by_id(s, id.next, id.value.value, x, room, kept);
     }
     Err(Bad {
         why: Refusal::Binary,

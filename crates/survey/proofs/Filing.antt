@@ -39,11 +39,11 @@ use Rattle.spots.specs.declared.Bad.{Bad}
 use Rattle.sofar.specs.declared.State.{State}
 use Rattle.notes.specs.declared.note.Met.{Met}
 use Rattle.facts.specs.declared.Taken.{Taken}
-use Rattle.kept.specs.Kept.{Listed, kept_of}
+use Rattle.kept.specs.Kept.{Listed, kept_by_lists}
 use Rattle.sofar.specs.Sofar.{id_for}
 use Rattle.notes.specs.Noting.{note_state, note_id, note_first, note_last, note_kept, note_place}
 use Rattle.sections.specs.Sections.{Outline, outline_of, outlined, met_for, sect_view, SectAt}
-use Rattle.sofar.specs.States.{state_for}
+use Rattle.sofar.specs.States.{state_by_lists}
 use Rattle.endings.specs.Endings.{verdict, last_of}
 use Rattle.survey.specs.Before.{nothing}
 use Rattle.survey.specs.Sites.{sited, sited_by, sites_from, token_sites}
@@ -136,20 +136,20 @@ place_length Met.Other z p l = refl
 -- ---- what the loop keeps; `old` are the places at its start
 pub record Filing (s : List ℕ) (room : Keeps.Room) (old : List ℕ) (kept : Listed) (places : List ℕ) (x : State) (c k : ℕ) : Type 0 where
   pub before : List Item
-  pub seen : Seen before (state_for kept x)
+  pub seen : Seen before (state_by_lists kept x)
   pub within : c ≤ length s
   pub few : k ≤ c
   pub kept_long : Long kept
   pub places_long : length places ≡ length old
-  pub same : verdict (file_of (length s) room (suc (length (tokens_from s c))) (state_for kept x) k (tokens_from s c)) ≡ verdict (tokens_answer (length s) room (tokens_from s 0))
-  pub sites : sets places x.zones (sites_from (length s) room (suc (length (tokens_from s c))) (state_for kept x) (tokens_from s c)) ≡ sets old 0 (token_sites (length s) room (tokens_from s 0))
+  pub same : verdict (file_of (length s) room (suc (length (tokens_from s c))) (state_by_lists kept x) k (tokens_from s c)) ≡ verdict (tokens_answer (length s) room (tokens_from s 0))
+  pub sites : sets places x.zones (sites_from (length s) room (suc (length (tokens_from s c))) (state_by_lists kept x) (tokens_from s c)) ≡ sets old 0 (token_sites (length s) room (tokens_from s 0))
 
-pub nothing_kept : (kept : Listed) → state_for kept nothing ≡ start
-unfolding kept_of
+pub nothing_kept : (kept : Listed) → state_by_lists kept nothing ≡ start
+unfolding kept_by_lists
 nothing_kept kept = refl
 
 module _ (s : List ℕ) (room : Keeps.Room) (old : List ℕ) (kept : Listed) where
-  pub filing_start : (x : State) → state_for kept x ≡ start → Long kept → Filing s room old kept old x 0 0
+  pub filing_start : (x : State) → state_by_lists kept x ≡ start → Long kept → Filing s room old kept old x 0 0
   filing_start x e a =
       record {
         before = [];
@@ -164,7 +164,7 @@ module _ (s : List ℕ) (room : Keeps.Room) (old : List ℕ) (kept : Listed) whe
 
   module _ (places : List ℕ) (x : State) (c k : ℕ) (f : Filing s room old kept places x c k) (t : Step) (e : t ≡ token_at s c) where
     abbrev here : St.State
-    here = state_for kept x
+    here = state_by_lists kept x
 
     abbrev whole : Reply
     whole = verdict (tokens_answer (length s) room (tokens_from s 0))
@@ -245,7 +245,7 @@ module _ (s : List ℕ) (room : Keeps.Room) (old : List ℕ) (kept : Listed) whe
         few_now : is_part (outline_of came.item) ≡ true → x.zones < zones
         few_now p = omega (arith, few_of room f.before came.item good.1 p, f.seen.zones)
 
-        next_state : state_for (note_kept m x.zones kept) (note_state x m) ≡ after here came.item
+        next_state : state_by_lists (note_kept m x.zones kept) (note_state x m) ≡ after here came.item
         next_state =
             note_is kept x f.kept_long.ids f.kept_long.firsts f.kept_long.lasts m came.item came.says few_now
 
@@ -284,7 +284,7 @@ module _ (s : List ℕ) (room : Keeps.Room) (old : List ℕ) (kept : Listed) whe
         pub filing_more : {a : Listed} {l : List ℕ} {y : State} → a ≡ note_kept m x.zones kept
             → l ≡ note_place m x.zones t.next.at places → y ≡ note_state x m → Filing s room old a l y n (k + 1)
         filing_more {a} {l} {y} p u w =
-            let st : state_for a y ≡ after here came.item = ap (λ i. state_for i y) p ∙ ap (state_for (note_kept m x.zones kept)) w ∙ next_state in
+            let st : state_by_lists a y ≡ after here came.item = ap (λ i. state_by_lists i y) p ∙ ap (state_by_lists (note_kept m x.zones kept)) w ∙ next_state in
             record {
               before = f.before ++ (came.item ∷ []);
               seen = subst (Seen (f.before ++ (came.item ∷ []))) (sym st) then;
@@ -294,7 +294,7 @@ module _ (s : List ℕ) (room : Keeps.Room) (old : List ℕ) (kept : Listed) whe
               places_long = ap length u ∙ place_length m x.zones t.next.at places ∙ f.places_long;
               same = ap (λ i. verdict (file_of (length s) room (suc (length (tokens_from s n))) i (k + 1) (tokens_from s n))) st
                   ∙ ap (λ i. verdict (file_of (length s) room (suc (length (tokens_from s n))) (after here came.item) i (tokens_from s n))) (add-one k) ∙ same_on;
-              sites = ap (λ i. sets i y.zones (sites_from (length s) room (suc (length (tokens_from s n))) (state_for a y) (tokens_from s n))) u
-                  ∙ ap (λ (i : State). sets (note_place m x.zones t.next.at places) i.zones (sites_from (length s) room (suc (length (tokens_from s n))) (state_for a y) (tokens_from s n))) w
+              sites = ap (λ i. sets i y.zones (sites_from (length s) room (suc (length (tokens_from s n))) (state_by_lists a y) (tokens_from s n))) u
+                  ∙ ap (λ (i : State). sets (note_place m x.zones t.next.at places) i.zones (sites_from (length s) room (suc (length (tokens_from s n))) (state_by_lists a y) (tokens_from s n))) w
                   ∙ ap (λ i. sets (note_place m x.zones t.next.at places) (note_state x m).zones (sites_from (length s) room (suc (length (tokens_from s n))) i (tokens_from s n))) st ∙ sites_on_lem;
             }

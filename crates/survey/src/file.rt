@@ -11,11 +11,11 @@ ghost use Rattle.endings.specs.Endings.{verdict};
 ghost use Rattle.survey.specs.Before.{nothing};
 ghost use Rattle.survey.specs.Sites.{token_sites, places_of};
 
-use endings::last_of;
+use endings::last_by_lists;
 use kept::Lists;
 use layout::{Accepted, Refusal, Refused};
 use notes::{keep, noted};
-use sections::section_at;
+use sections::section_by_lists;
 use sofar::{Room, Seen, State};
 use tokens::{Cursor, Step, Token};
 
@@ -85,10 +85,10 @@ fn file_from(
         let next = t.next.at;
         let lists = Lists { ids, firsts, lasts };
         let Token::Left = kind else {
-            return last_of(kind, start, x, lists, k, s.len());
+            return last_by_lists(kind, start, x, lists, k, s.len());
         };
         k += 1;
-        match section_at(s, next, x, room, lists) {
+        match section_by_lists(s, next, x, room, lists) {
             Err(bad) => {
                 return Err(Refused {
                     why: bad.why,

@@ -19,8 +19,8 @@ use Rattle.spots.specs.declared.Kind as Code
 use Rattle.spots.specs.Heads.{kind_for}
 use Rattle.sofar.specs.Sofar.{id_for}
 use Rattle.kept.specs.declared.Kept.{Kept}
-use Rattle.kept.specs.Kept.{Listed, on_top, kept_of}
-use Rattle.kept.proofs.Stored.{stored, kept_top}
+use Rattle.kept.specs.Kept.{Listed, on_top, kept_by_lists}
+use Rattle.kept.proofs.StoredByLists.{stored, kept_top}
 use Rattle.texts.specs.Tabled.{by_kind, fifth_of}
 use Rattle.texts.proofs.ByKind.{chosen}
 use Rattle.texts.specs.Judged.{total_of, spans_of, element_by, record_by, record_fits, all_tiled, records_by}
@@ -72,7 +72,7 @@ pub record Judging (t : Totals) (words : List ℕ) (rs : List (List ℕ)) (kept 
   pub whole : n ≡ length words / 6
   pub rows : n ≡ length rs
   pub few : i ≤ n
-  pub spans : (id : ℕ) → kept_of kept id i ≡ spans_of id before
+  pub spans : (id : ℕ) → kept_by_lists kept id i ≡ spans_of id before
   pub kept_size : Long kept
   pub same : records_by (records_of t words) before (map zone_in (drop i rs)) ≡ records_by (records_of t words) [] (records_in words)
 
@@ -82,7 +82,7 @@ module _ (t : Totals) (words : List ℕ) (rs : List (List ℕ)) where
 
   pub judging_start : (kept : Listed) → Long kept → (n : ℕ) → n ≡ length rs → rs ≡ first_chunks 6 (length words / 6) words → length rs ≡ length words / 6
       → Judging t words rs kept n 0
-  unfolding kept_of spans_of
+  unfolding kept_by_lists spans_of
   judging_start kept a n e f l =
       record {
         before = [];
@@ -130,7 +130,7 @@ module _ (t : Totals) (words : List ℕ) (rs : List (List ℕ)) where
     pub judging_few : (z : Zone) → {b : Bool} → b ≡ record_in kept t n i z → b ≡ true → i < zones
     judging_few z p q = omega (arith, fits_few m g.before z (sym (p ∙ judged_is z) ∙ q), g.many)
 
-    spans_more : (id : ℕ) (z : Zone) → i < zones → kept_of (stored kept i (kept_as z)) id (suc i) ≡ spans_of id (z ∷ g.before)
+    spans_more : (id : ℕ) (z : Zone) → i < zones → kept_by_lists (stored kept i (kept_as z)) id (suc i) ≡ spans_of id (z ∷ g.before)
     unfolding spans_of
     spans_more id z l = kept_top kept i (kept_as z) (omega (arith, g.kept_size.ids)) (omega (arith, g.kept_size.firsts)) (omega (arith, g.kept_size.lasts)) id ∙ ap (on_top id (kept_as z)) (g.spans id)
 
@@ -144,7 +144,7 @@ module _ (t : Totals) (words : List ℕ) (rs : List (List ℕ)) where
           whole = g.whole;
           rows = g.rows;
           few = omega (arith, g.rows);
-          spans = λ id. ap (kept_of (stored kept i (kept_as z)) id) (add-one i) ∙ spans_more id z (judging_few z p q);
+          spans = λ id. ap (kept_by_lists (stored kept i (kept_as z)) id) (add-one i) ∙ spans_more id z (judging_few z p q);
           kept_size =
               record {
                 ids = length-set kept.ids i z.section ∙ g.kept_size.ids;

@@ -10,7 +10,7 @@ ghost use Rattle.writer.specs.inner.Records.{records_of, kind_in, record_in, til
 use super::flat::ZONE_WORDS;
 use super::section::zone_of;
 use super::tables::Totals;
-use kept::{Lists, is_clear, is_tiled};
+use kept::{Lists, is_clear_by_lists, is_tiled_by_lists};
 use listing::{fifth_listed, type_listed};
 use mesh::Zone;
 use ranges::{part_range, zone_fits};
@@ -44,7 +44,7 @@ fn kind_fits(kind: Kind, d: u32, total: u32, z: Zone, lists: Lists<'_>, i: usize
     1 <= z.zone
         && element_fits(kind, z.element)
         && part_range(total, z.zone, z.first, z.last)
-        && is_clear(lists, i, id_of(kind), z.first, z.last)
+        && is_clear_by_lists(lists, i, id_of(kind), z.first, z.last)
         && type_listed(kind, z.ztype)
         && fifth_listed(kind, Some(fifth))
         && zone_fits(Some(n), i)
@@ -68,9 +68,9 @@ fn record_fits(totals: Totals, z: Zone, lists: Lists<'_>, i: usize, n: usize) ->
 fn all_tiled(totals: Totals, lists: Lists<'_>, n: usize) -> bool
     ensures { result ≡ tiled_in (listed lists.entry) totals n }
 {
-    is_tiled(lists, n, id_of(Kind::Node), totals.nodes)
-        && is_tiled(lists, n, id_of(Kind::Cell), totals.cells)
-        && is_tiled(lists, n, id_of(Kind::Face), totals.faces)
+    is_tiled_by_lists(lists, n, id_of(Kind::Node), totals.nodes)
+        && is_tiled_by_lists(lists, n, id_of(Kind::Cell), totals.cells)
+        && is_tiled_by_lists(lists, n, id_of(Kind::Face), totals.faces)
 }
 
 pub(crate) fn records_fit(totals: Totals, zones: &[u32]) -> bool

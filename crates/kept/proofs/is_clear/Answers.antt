@@ -1,16 +1,14 @@
+use Rattle.std.proofs.Common.{rules}
 use borrow.Author.Tests.{tests}
-use mathlib.Core.Path.{◌∙◌, ap}
+use mathlib.Core.Path.{◌∙◌}
+use Rattle.std.proofs.lemmas.Iterator.{YieldsList-from_slice, YieldsList-from_take}
+use Rattle.std.proofs.lemmas.Iterator.Search.{all_from_yields_List}
 use Rattle.kept.specs.Kept.{apart}
-use Rattle.kept.proofs.Keeping.{clear_more, clear_off, clear_none}
+use Rattle.kept.proofs.Keeping.{clear_kept}
 use Rattle.kept.proofs.is_clear.Goals as goal
 
-pub returns-then-not-is_apart : goal.returns-then-not-is_apart
-returns-then-not-is_apart c =
-    clear_off _ _ _ _ _ _ c.loop-i-test.true (c.is_apart.ensures ∙ ap (apart c.args.id c.args.first c.args.last) c.kept_at.ensures) (search tests) ∙ c.loop-i.invariant
-
-pub loop-i-preserved : goal.loop-i-preserved
-loop-i-preserved c =
-    clear_more _ _ _ _ _ _ c.loop-i-test.true (c.is_apart.ensures ∙ ap (apart c.args.id c.args.first c.args.last) c.kept_at.ensures) (search tests) ∙ c.loop-i.invariant
-
 pub returns : goal.returns
-returns c = clear_none _ _ _ _ _ c.loop-i-test.false ∙ c.loop-i.invariant
+returns c =
+    let a = c.args in
+    all_from_yields_List (apart a.id a.first a.last) _ _ c.all.result c.all.ensures.ran (YieldsList-from_take a.z (YieldsList-from_slice a.kept.now (cc)) c.take.ensures.count) (λ x b q k. search (rules, tests))
+    ∙ clear_kept a.kept.now a.id a.z a.first a.last

@@ -1,8 +1,8 @@
 use mathlib.Core.Path.{◌∙◌, ap}
 use Rattle.std.specs.Prelude.{Some}
 use Rattle.kept.specs.Kept.{holds}
-use Rattle.kept.proofs.Keeping.{holder_hit, holder_more, holder_none}
-use Rattle.kept.proofs.holder.Goals as goal
+use Rattle.kept.proofs.ByLists.{holder_hit, holder_more, holder_none}
+use Rattle.kept.proofs.by_lists.holder.Goals as goal
 
 pub returns-then-holds : goal.returns-then-holds
 returns-then-holds c =
