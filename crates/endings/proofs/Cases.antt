@@ -14,7 +14,7 @@ use Rattle.endings.specs.Endings.{verdict, last_of}
 abbrev two : State
 two = after start (dim 2)
 
--- `last_of`: a missing declaration called untiled
+-- `last_of`, `last_by_lists`: a missing declaration called untiled
 last_of_lem :
     (last_of Token.End 5 two 1 5 ≡ refuses Refusal.Missing 1 5)
     × (verdict (ending true true (two.nodes.declared && two.faces.declared) (accepted two []) 1 5) ≡ refuses Refusal.Untiled 1 5)

@@ -35,7 +35,7 @@ fn holds(met: Kept, id: u32, i: u32) -> bool
     met.id == id && met.first <= i && i <= met.last
 }
 
-// Whether first to last meets none of the first z sections that is of this kind. Behind the end of the lists a section 0 from 0 to 0 stands at each place.
+// Whether first to last meets none of the first z sections that is of this kind. A place behind the end of all three has a section 0 from 0 to 0; behind the end of one, its word alone is 0.
 pub fn is_clear_by_lists(lists: Lists<'_>, z: usize, id: u32, first: u32, last: u32) -> bool
     ensures { result ≡ every (clear first last) (kept_by_lists (listed lists.entry) id z) }
 {

@@ -18,7 +18,7 @@ room = record { nodes = unlimited; cells = unlimited; faces = unlimited; zones =
 abbrev header : Header
 header = record { zone = 0; first = 1; last = 2; type = 0; fifth = absent }
 
--- `section_at`: faces read as cells
+-- `section_at`, `section_by_lists`: faces read as cells
 section_at :
     (section_of 13 room start (tokens_of (bytes "13 (0 1 2 0))")) ≡ got (decl face header) [])
     × (kind_of 13 room cell start (tokens_from (bytes "13 (0 1 2 0))") 2) ≡ got (decl cell header) [])
